@@ -1,0 +1,13 @@
+use borrow.Author.Needs.{needs}
+use native.Mathlib.Omega.{arith}
+use Rattle.std.proofs.shelf.Signed.{toZ-ofZ}
+use Rattle.scale.specs.Kept.{kept}
+use Rattle.scale.proofs.Means.{mean-ranged}
+use Rattle.scale.proofs.Windows.{take-ranged}
+use Rattle.scale.proofs.smoothing.mean_of.Needs as need
+
+pub returns-in-Some : need.returns-in-Some
+returns-in-Some c =
+    let w = c .args .window .now in
+    let b = mean-ranged (kept w) (take-ranged (w .count) (w .weights) (w .ranged)) in
+    record { value = search needs; range = search needs }

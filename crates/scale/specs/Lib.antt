@@ -1,0 +1,4 @@
+pub mod Conversion
+pub mod Figures
+pub mod Kept
+pub mod Readings

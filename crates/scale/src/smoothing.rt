@@ -1,0 +1,62 @@
+// The smoothing layer: it stands over any scale, and shows the mean of what that one showed.
+ghost use mathlib.Core.Path.{_≡_};
+ghost use mathlib.Core.List.{[]};
+ghost use Prim.Native.Nat.{ℕ, _≤_};
+ghost use lib.IntN.{ℤ, natAbs};
+ghost use Rattle.weight.specs.Range.{InRange};
+ghost use Rattle.scale.specs.Readings.{mean, smoothed};
+ghost use Rattle.scale.specs.Kept.{kept, newest};
+use crate::kind::Scale;
+use crate::reading::Sample;
+use crate::window::Window;
+use std::num::NonZeroU32;
+use weight::rounding::rounded;
+
+#[derive(Drop)]
+pub struct Smoothing<S: Scale> {
+    below: S,
+    window: Window<4>,
+}
+
+impl<S: Scale> Smoothing<S> {
+    // A layer over this scale; no sample has come through the layer yet.
+    pub fn new(below: S) -> Smoothing<S>
+        ensures below { λ r. ⌜ r .below ≡ below ⌝ }
+        ensures window { λ r. ⌜ kept (r .window) ≡ [] ⌝ }
+    {
+        Smoothing {
+            below,
+            window: Window::new(),
+        }
+    }
+}
+
+pub impl<S: Scale> Scale for Smoothing<S> as SmoothingScale {
+    ghost shows = { λ s. smoothed (kept (s .window)) (S·Scale .shows (s .below)) };
+
+    ghost takes = { λ s x t. S·Scale .takes (s .below) x (t .below) × (kept (t .window) ≡ newest 4 (S·Scale .shows (t .below) .gross) (kept (s .window))) };
+
+    fn gross(&self) -> i32 {
+        mean_of(&self.window)
+    }
+
+    fn stable(&self) -> bool {
+        self.window.len() > 0 && self.below.stable()
+    }
+
+    fn sample(&mut self, sample: Sample) {
+        self.below.sample(sample);
+        self.window.push(self.below.gross());
+    }
+}
+
+// The rounded mean of the weights, or 0 of none.
+fn mean_of(window: &Window<4>) -> i32
+    ensures value { λ r. ⌜ r ≡ mean (kept (now (window .entry))) ⌝ }
+    ensures range { λ r. ⌜ InRange r ⌝ }
+{
+    match NonZeroU32::new(window.len() as u32) {
+        Some(n) => rounded(window.total(), n) as i32,
+        None => 0,
+    }
+}

@@ -27,6 +27,7 @@ const LAST_CODE: i32 = 8_388_607;
 #[derive(Drop)]
 pub struct Converter {
     settings: Settings,
+    // the last eight gross weights
     window: Window<8>,
     ghost made: { inRange settings ≡ true },
 }

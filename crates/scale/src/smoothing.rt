@@ -14,8 +14,9 @@ use weight::rounding::rounded;
 
 #[derive(Drop)]
 pub struct Smoothing<S: Scale> {
-    below: S,
+    // the last four gross weights below
     window: Window<4>,
+    below: S,
 }
 
 impl<S: Scale> Smoothing<S> {
@@ -25,8 +26,8 @@ impl<S: Scale> Smoothing<S> {
         ensures window { λ r. ⌜ kept (r .window) ≡ [] ⌝ }
     {
         Smoothing {
-            below,
             window: Window::new(),
+            below,
         }
     }
 }
@@ -51,7 +52,8 @@ pub impl<S: Scale> Scale for Smoothing<S> as SmoothingScale {
 }
 
 // The rounded mean of the weights, or 0 of none.
-fn mean_of(window: &Window<4>) -> i32
+fn mean_of<const K: usize>(window: &Window<K>) -> i32
+    requires { ⌜ K ≤ 1000 ⌝ }
     ensures value { λ r. ⌜ r ≡ mean (kept (now (window .entry))) ⌝ }
     ensures range { λ r. ⌜ InRange r ⌝ }
 {

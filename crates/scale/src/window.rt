@@ -9,7 +9,7 @@ mod calls;
 
 // The last K weights, newest first, or as many as have come.
 #[derive(Drop)]
-pub struct Window<const K: usize> {
+pub(crate) struct Window<const K: usize> {
     count: usize,
     weights: [i32; K],
     ghost few: { count ≤ K },

@@ -22,7 +22,7 @@ fn shifted_in<const K: usize>(ws: [i32; K], w: i32) -> [i32; K]
 
 impl<const K: usize> Window<K> {
     // A window to which no weight has come.
-    pub fn new() -> Window<K>
+    pub(crate) fn new() -> Window<K>
         ensures { λ r. ⌜ kept r ≡ [] ⌝ }
     {
         Window {
@@ -32,7 +32,7 @@ impl<const K: usize> Window<K> {
     }
 
     // Puts a weight in, and drops the oldest beyond K.
-    pub fn push(&mut self, w: i32)
+    pub(crate) fn push(&mut self, w: i32)
         requires { ⌜ InRange w ⌝ }
         ensures { λ _. ⌜ kept (now (self .exit)) ≡ newest K w (kept (now (self .entry))) ⌝ }
     {
@@ -41,7 +41,7 @@ impl<const K: usize> Window<K> {
     }
 
     // How many weights are kept.
-    pub fn len(&self) -> usize
+    pub(crate) fn len(&self) -> usize
         ensures value { λ r. ⌜ r ≡ length (kept (now (self .entry))) ⌝ }
         ensures few { λ r. ⌜ r ≤ K ⌝ }
     {
@@ -49,7 +49,7 @@ impl<const K: usize> Window<K> {
     }
 
     // The newest weight, or 0 where none has come.
-    pub fn latest(&self) -> i32
+    pub(crate) fn latest(&self) -> i32
         ensures value { λ r. ⌜ r ≡ getD (kept (now (self .entry))) 0 (pos 0) ⌝ }
         ensures range { λ r. ⌜ InRange r ⌝ }
     {
@@ -66,7 +66,7 @@ impl<const K: usize> Window<K> {
     }
 
     // The sum of the weights.
-    pub fn total(&self) -> i64
+    pub(crate) fn total(&self) -> i64
         requires { ⌜ K ≤ 1000 ⌝ }
         ensures value { λ r. ⌜ r ≡ total (kept (now (self .entry))) ⌝ }
         ensures size { λ r. ⌜ natAbs r ≤ most * length (kept (now (self .entry))) ⌝ }
@@ -101,7 +101,7 @@ impl<const K: usize> Window<K> {
     }
 
     // How far the weights lie apart.
-    pub fn spread(&self) -> i64
+    pub(crate) fn spread(&self) -> i64
         ensures { λ r. ⌜ r ≡ spread (kept (now (self .entry))) ⌝ }
     {
         self.highest() as i64 - self.lowest() as i64

@@ -7,7 +7,7 @@ use Rattle.scale.proofs.Windows.{take-ranged}
 use Rattle.scale.proofs.smoothing.mean_of.Needs as need
 
 pub returns-in-Some : need.returns-in-Some
-returns-in-Some c =
+returns-in-Some g c =
     let w = c .args .window .now in
     let b = mean-ranged (kept w) (take-ranged (w .count) (w .weights) (w .ranged)) in
     record { value = search needs; range = search needs }

@@ -1,13 +1,12 @@
 -- What the test of a converter's numbers tells of each.
 use mathlib.Core.Path.{_≡_}
 use mathlib.Core.Bool.{true}
-use Prim.Native.Nat.{ℕ, _≤_}
+use Prim.Native.Nat.{_≤_}
 use native.Mathlib.Omega.{arith}
-use lib.IntN.{ℤ, pos, negsuc, natAbs}
+use lib.IntN.{natAbs}
 use Rattle.std.proofs.shelf.Signed.{ints}
-use Rattle.std.proofs.shelf.Tests.{and-parts}
 use Rattle.std.proofs.shelf.Ways.{tells}
-use Rattle.scale.specs.Conversion.{between, isDivision, inRange, lastCode}
+use Rattle.scale.specs.Conversion.{inRange, lastCode}
 use Rattle.scale.specs.declared.settings.Settings.{Settings}
 
 pub record Ranges (s : Settings) : Type 0 where

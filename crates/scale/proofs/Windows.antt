@@ -5,7 +5,7 @@ use mathlib.Core.List.{List, [], _∷_, _++_}
 use Prim.Native.Nat.{ℕ, zero, suc, _+_, _-_, _≤_, _<_, min}
 use native.Mathlib.Numerals.{add-one}
 use native.Mathlib.Omega.{arith}
-use lib.IntN.{ℤ, pos, natAbs}
+use lib.IntN.{ℤ, pos}
 use lib.ListN.{length, take, set, getD, replicate}
 use Rattle.std.proofs.shelf.Lists.{take-more, take-more-set, take-take, take-all, length-take, getD-take, getD-past, getD-replicate, length-replicate}
 use Rattle.std.proofs.shelf.Tests.{cases-lt}

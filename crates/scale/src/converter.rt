@@ -2,15 +2,14 @@
 ghost use mathlib.Core.Path.{_≡_};
 ghost use mathlib.Core.Bool.{true, false};
 ghost use mathlib.Core.List.{[]};
-ghost use Prim.Native.Nat.{ℕ, _≤_, _*_, _<_, _^_};
-ghost use lib.IntN.{ℤ, pos, natAbs, _-ℤ_, _*ℤ_};
-ghost use lib.Signed.{_≤ℤ_};
+ghost use Prim.Native.Nat.{_≤_, _*_, _<_, _^_};
+ghost use lib.IntN.{ℤ, natAbs, _-ℤ_, _*ℤ_};
 ghost use Rattle.std.specs.NonZero.{of-u32};
 ghost use Rattle.std.specs.declared.result.Result.the-variants.{Ok, Err};
 ghost use Rattle.weight.specs.Range.{InRange, cut};
 ghost use Rattle.weight.specs.declared.fault.Fault.the-variants.{OutOfRange};
 ghost use Rattle.scale.specs.Conversion.{between, codesInRange, isDivision, inRange, lastCode, weightsInRange, divisor, converted};
-ghost use Rattle.scale.specs.Readings.{settled, converterShows};
+ghost use Rattle.scale.specs.Readings.{converterShows};
 ghost use Rattle.scale.specs.Kept.{kept, newest};
 use crate::kind::Scale;
 use crate::reading::Sample;

@@ -1,8 +1,7 @@
 // The smoothing layer: it stands over any scale, and shows the mean of what that one showed.
 ghost use mathlib.Core.Path.{_≡_};
 ghost use mathlib.Core.List.{[]};
-ghost use Prim.Native.Nat.{ℕ, _≤_};
-ghost use lib.IntN.{ℤ, natAbs};
+ghost use Prim.Native.Nat.{_≤_};
 ghost use Rattle.weight.specs.Range.{InRange};
 ghost use Rattle.scale.specs.Readings.{mean, smoothed};
 ghost use Rattle.scale.specs.Kept.{kept, newest};

@@ -1,6 +1,6 @@
 -- The spread of eight weights bounds the difference of every two of them, and two of them differ by it.
-use mathlib.Core.Path.{_≡_, refl, sym, ap, _∙_}
-use mathlib.Core.Bool.{Bool, true}
+use mathlib.Core.Path.{_≡_, refl, sym}
+use mathlib.Core.Bool.{true}
 use mathlib.Core.Logic.{⊎-elim}
 use mathlib.Core.List.{List}
 use Prim.Native.Nat.{ℕ, _<_}
@@ -9,7 +9,6 @@ use lib.Dec.{eqb}
 use lib.IntN.{ℤ, pos, _-ℤ_}
 use lib.ListN.{length, getD}
 use lib.Signed.{_≤ℤ_, leZ}
-use Rattle.std.specs.Orderings.{Decides}
 use Rattle.std.proofs.shelf.Elements.{all-getD}
 use Rattle.std.proofs.shelf.Signed.{ints, folded-maxZ-bounds, folded-maxZ-reached, folded-minZ-bounds, folded-minZ-reached}
 use Rattle.std.proofs.shelf.Tests.{and-parts, and-from}

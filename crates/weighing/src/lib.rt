@@ -1,7 +1,7 @@
 // Whole weighings: what a scale shows after any series of samples.
 ghost use mathlib.Core.Path.{_≡_};
 ghost use mathlib.Core.Bool.{true, false};
-ghost use mathlib.Core.List.{List, [], reverse};
+ghost use mathlib.Core.List.{[], reverse};
 ghost use Rattle.std.specs.declared.result.Result.the-variants.{Ok, Err};
 ghost use Rattle.weight.specs.declared.fault.Fault.the-variants.{OutOfRange};
 ghost use Rattle.scale.specs.Conversion.{inRange};

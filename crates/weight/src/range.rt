@@ -1,7 +1,5 @@
 // The range of weights.
 ghost use mathlib.Core.Path.{_≡_};
-ghost use Prim.Native.Nat.{ℕ};
-ghost use lib.IntN.{ℤ};
 ghost use Rattle.weight.specs.Range.{InRange, cut, most};
 
 // The largest weight. A weight is a whole number of units of the last displayed digit, from -MOST to MOST.

@@ -1,7 +1,7 @@
 // Rounding a quotient to a whole number.
 ghost use mathlib.Core.Path.{_≡_};
-ghost use Prim.Native.Nat.{ℕ, _≤_, _<_};
-ghost use lib.IntN.{ℤ, pos, natAbs};
+ghost use Prim.Native.Nat.{_≤_, _<_};
+ghost use lib.IntN.{pos, natAbs};
 ghost use lib.Signed.{quotZ};
 ghost use Rattle.std.specs.NonZero.{of-u32};
 ghost use Rattle.weight.specs.Rounding.{rounding, correction, Nearest};

@@ -3,7 +3,7 @@ use Rattle.scale.specs.declared.converter.Converter.{Converter}
 use Rattle.scale.specs.Kept.{kept}
 use Rattle.scale.specs.Readings.{converterShows}
 use Rattle.weighing.specs.Courses.{latest}
-use Rattle.weighing.proofs.Courses.{Converted, converter-course, shows-latest}
+use Rattle.weighing.proofs.Courses.{converter-course, shows-latest}
 use Rattle.weighing.proofs.converter_shows.Needs as need
 
 pub returns : need.returns

@@ -2,7 +2,7 @@ use mathlib.Core.Path.{ap, _∙_}
 use Rattle.scale.specs.Kept.{kept}
 use Rattle.scale.specs.Readings.{smoothed}
 use Rattle.weighing.specs.Courses.{latest}
-use Rattle.weighing.proofs.Courses.{Layered, layer-course, shows-latest}
+use Rattle.weighing.proofs.Courses.{layer-course, shows-latest}
 use Rattle.weighing.proofs.layer_shows.Needs as need
 
 pub returns : need.returns

@@ -2,7 +2,7 @@ use mathlib.Core.Path.{refl, ap, _∙_}
 use Rattle.scale.specs.declared.converter.Converter.{Converter}
 use Rattle.scale.specs.Kept.{kept}
 use Rattle.weighing.specs.Courses.{latest, smoothedCourse}
-use Rattle.weighing.proofs.Courses.{Converted, converter-course}
+use Rattle.weighing.proofs.Courses.{converter-course}
 use Rattle.weighing.proofs.smoothed_converter_shows.Needs as need
 
 pub returns : need.returns

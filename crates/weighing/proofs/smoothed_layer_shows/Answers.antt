@@ -1,7 +1,7 @@
 use mathlib.Core.Path.{refl, ap, _∙_}
 use Rattle.scale.specs.Kept.{kept}
 use Rattle.weighing.specs.Courses.{latest, smoothedCourse}
-use Rattle.weighing.proofs.Courses.{Layered, head-course, layer-course}
+use Rattle.weighing.proofs.Courses.{head-course, layer-course}
 use Rattle.weighing.proofs.smoothed_layer_shows.Needs as need
 
 pub returns : need.returns

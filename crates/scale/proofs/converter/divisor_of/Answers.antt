@@ -1,7 +1,7 @@
 use borrow.Author.Needs.{needs}
 use Rattle.std.proofs.shelf.Bits.{mul-le}
 use lib.IntN.{natAbs}
-use Rattle.scale.proofs.Ranges.{Ranges, ranges}
+use Rattle.scale.proofs.Ranges.{ranges}
 use Rattle.scale.proofs.converter.divisor_of.Needs as need
 
 pub mul-unsigned-abs : need.mul-unsigned-abs

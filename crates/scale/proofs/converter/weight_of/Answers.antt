@@ -3,7 +3,7 @@ use Prim.Native.Nat.{_≤_, _*_}
 use lib.IntN.{natAbs}
 use Rattle.std.proofs.shelf.Bits.{mul-le}
 use Rattle.scale.specs.Conversion.{converted}
-use Rattle.scale.proofs.Ranges.{Ranges, ranges}
+use Rattle.scale.proofs.Ranges.{ranges}
 use Rattle.scale.proofs.converter.weight_of.Needs as need
 
 pub times-product-requires : need.times-product-requires

@@ -1,6 +1,4 @@
 use borrow.Author.Needs.{needs}
-use native.Mathlib.Omega.{arith}
-use Rattle.std.proofs.shelf.Signed.{toZ-ofZ}
 use Rattle.scale.specs.Kept.{kept}
 use Rattle.scale.proofs.Means.{mean-ranged}
 use Rattle.scale.proofs.Windows.{take-ranged}

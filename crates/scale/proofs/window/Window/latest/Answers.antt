@@ -1,5 +1,4 @@
 use borrow.Author.Needs.{needs}
-use lib.IntN.{pos}
 use Rattle.std.proofs.shelf.Lists.{getD-take}
 use Rattle.scale.proofs.window.Window.latest.Needs as need
 

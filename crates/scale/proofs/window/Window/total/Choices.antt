@@ -1,6 +1,6 @@
 use mathlib.Core.Path.{_≡_}
 use Prim.Native.Nat.{_≤_, _*_}
-use lib.ListN.{getD, take}
+use lib.ListN.{take}
 use lib.IntN.{pos, _+ℤ_, natAbs}
 use Rattle.weight.specs.Range.{most}
 use Rattle.std.specs.Iters.{folded}

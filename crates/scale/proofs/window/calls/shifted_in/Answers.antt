@@ -1,9 +1,8 @@
 use borrow.Author.Needs.{needs}
-use native.Mathlib.Omega.{arith}
 use mathlib.Core.Path.{ap, _∙_}
 use Prim.Native.Nat.{_-_}
 use lib.IntN.{ℤ, pos}
-use lib.ListN.{getD, take}
+use lib.ListN.{getD}
 use mir.Syntax.{w32}
 use mir.Val.{SFits}
 use Rattle.std.proofs.shelf.Lists.{length-replicate, length-set}

@@ -35,12 +35,12 @@ abbrev pub driveAnswer : Outputs → ℕ → Result (Unit {0}) Fault
 driveAnswer o b = cond (refuses o b) (Err DriveRefused) (Ok tt)
 
 -- A trip leaves 0 and the mark.
-abbrev pub trips : Outputs → Outputs
-trips o = record { standing = 0; tripped = true; limit = o .limit }
+abbrev pub afterTrip : Outputs → Outputs
+afterTrip o = record { standing = 0; tripped = true; limit = o .limit }
 
 -- A reset leaves 0 and no mark.
-abbrev pub resets : Outputs → Outputs
-resets o = record { standing = 0; tripped = false; limit = o .limit }
+abbrev pub afterReset : Outputs → Outputs
+afterReset o = record { standing = 0; tripped = false; limit = o .limit }
 
 -- A new board with that limit: 0 stands, and it is not tripped.
 abbrev pub newBoard : ℕ → Outputs

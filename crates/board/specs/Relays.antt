@@ -14,9 +14,9 @@ abbrev pub bits : ℕ → List Bool
 bits b = bit b 0 ∷ bit b 1 ∷ bit b 2 ∷ bit b 3 ∷ bit b 4 ∷ bit b 5 ∷ bit b 6 ∷ bit b 7 ∷ []
 
 -- What relay n adds to the byte: 2 ^ n where it is on.
-abbrev pub adds : List Bool → ℕ → ℕ
-adds rs n = cond (getD rs n false) (2 ^ n) 0
+abbrev pub worthOf : List Bool → ℕ → ℕ
+worthOf rs n = cond (getD rs n false) (2 ^ n) 0
 
 -- The byte that eight relays make.
 abbrev pub byteOf : List Bool → ℕ
-byteOf rs = adds rs 0 + adds rs 1 + adds rs 2 + adds rs 3 + adds rs 4 + adds rs 5 + adds rs 6 + adds rs 7
+byteOf rs = worthOf rs 0 + worthOf rs 1 + worthOf rs 2 + worthOf rs 3 + worthOf rs 4 + worthOf rs 5 + worthOf rs 6 + worthOf rs 7

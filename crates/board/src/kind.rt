@@ -1,7 +1,7 @@
 // What every kind of output board does. A line drives any board that meets this.
 ghost use mathlib.Core.Path.{_≡_};
 ghost use Prim.Native.Nat.{_≤_};
-ghost use Rattle.board.specs.Outputs.{Outputs, driven, driveAnswer, trips, resets};
+ghost use Rattle.board.specs.Outputs.{Outputs, driven, driveAnswer, afterTrip, afterReset};
 use weight::fault::Fault;
 
 pub trait Board {
@@ -30,9 +30,9 @@ pub trait Board {
 
     // Leaves 0 and the tripped mark.
     fn trip(&mut self)
-        ensures after { λ _. ⌜ has (now (self .exit)) ≡ trips (has (now (self .entry))) ⌝ };
+        ensures after { λ _. ⌜ has (now (self .exit)) ≡ afterTrip (has (now (self .entry))) ⌝ };
 
     // Leaves 0 and no tripped mark.
     fn reset(&mut self)
-        ensures after { λ _. ⌜ has (now (self .exit)) ≡ resets (has (now (self .entry))) ⌝ };
+        ensures after { λ _. ⌜ has (now (self .exit)) ≡ afterReset (has (now (self .entry))) ⌝ };
 }

@@ -3,7 +3,7 @@ ghost use mathlib.Core.Path.{_≡_};
 ghost use Prim.Native.Nat.{ℕ};
 ghost use Rattle.board.specs.Outputs.{refusedAt, refuses};
 
-// The test itself, stated in its parts.
+// The test by the mark and the limit. The next function says the same of a whole board, whose test is shut.
 fn refused_at(tripped: bool, limit: u8, byte: u8) -> bool
     ensures value { λ r. ⌜ r ≡ refusedAt tripped limit byte ⌝ }
 {

@@ -3,7 +3,7 @@ ghost use mathlib.Core.Path.{_≡_};
 ghost use mathlib.Core.Bool.{cond};
 ghost use Prim.Native.Nat.{_≤_};
 ghost use Rattle.board.specs.Outputs.{newBoard};
-ghost use Rattle.board.specs.Kinds.{relayOutputs};
+ghost use Rattle.board.specs.Kinds.{relayLimit, relayOutputs};
 ghost use Rattle.board.specs.Relays.{bits, byteOf};
 use crate::kind::Board;
 use crate::refusal::refused;
@@ -31,7 +31,7 @@ fn bits_of(byte: u8) -> [bool; 8]
     ]
 }
 
-// The relays that make the byte.
+// The same, and that the relays make the byte again.
 fn relays_of(byte: u8) -> [bool; 8]
     ensures each { λ r. ⌜ r ≡ bits byte ⌝ }
     ensures whole { λ r. ⌜ byteOf r ≡ byte ⌝ }
@@ -40,7 +40,7 @@ fn relays_of(byte: u8) -> [bool; 8]
 }
 
 // What a relay adds to the byte: what its bit is worth, where it is on.
-fn adds(on: bool, worth: u8) -> u8
+fn worth_of(on: bool, worth: u8) -> u8
     ensures value { λ r. ⌜ r ≡ cond on worth 0 ⌝ }
     ensures bound { λ r. ⌜ r ≤ worth ⌝ }
 {
@@ -52,21 +52,22 @@ fn byte_of(relays: [bool; 8]) -> u8
     ensures value { λ r. ⌜ r ≡ byteOf relays ⌝ }
 {
     let [r0, r1, r2, r3, r4, r5, r6, r7] = relays;
-    adds(r0, 1)
-        + adds(r1, 2)
-        + adds(r2, 4)
-        + adds(r3, 8)
-        + adds(r4, 16)
-        + adds(r5, 32)
-        + adds(r6, 64)
-        + adds(r7, 128)
+    worth_of(r0, 1)
+        + worth_of(r1, 2)
+        + worth_of(r2, 4)
+        + worth_of(r3, 8)
+        + worth_of(r4, 16)
+        + worth_of(r5, 32)
+        + worth_of(r6, 64)
+        + worth_of(r7, 128)
 }
 
 impl RelayBox {
     const LIMIT: u8 = 8;
 
+    // All relays are off, and the box is not tripped.
     pub fn new() -> Self
-        ensures { λ r. ⌜ relayOutputs r ≡ newBoard 8 ⌝ }
+        ensures { λ r. ⌜ relayOutputs r ≡ newBoard relayLimit ⌝ }
     {
         RelayBox {
             relays: [false; 8],
@@ -91,7 +92,7 @@ pub impl Board for RelayBox as RelayOutputs {
     }
 
     fn drive(&mut self, byte: u8) -> Result<(), Fault> {
-        if refused(self.tripped, Self::LIMIT, byte) {
+        if refused(self.tripped, self.limit(), byte) {
             self.trip();
             return Err(Fault::DriveRefused);
         }

@@ -1,7 +1,7 @@
 // A board that keeps its outputs as one byte. At most two of them may be on at a time.
 ghost use mathlib.Core.Path.{_≡_};
 ghost use Rattle.board.specs.Outputs.{newBoard};
-ghost use Rattle.board.specs.Kinds.{transistorOutputs};
+ghost use Rattle.board.specs.Kinds.{transistorLimit, transistorOutputs};
 use crate::kind::Board;
 use crate::refusal::refused;
 use weight::fault::Fault;
@@ -15,8 +15,9 @@ pub struct TransistorBoard {
 impl TransistorBoard {
     const LIMIT: u8 = 2;
 
+    // All outputs are off, and the board is not tripped.
     pub fn new() -> Self
-        ensures { λ r. ⌜ transistorOutputs r ≡ newBoard 2 ⌝ }
+        ensures { λ r. ⌜ transistorOutputs r ≡ newBoard transistorLimit ⌝ }
     {
         TransistorBoard {
             standing: 0,
@@ -41,7 +42,7 @@ pub impl Board for TransistorBoard as TransistorOutputs {
     }
 
     fn drive(&mut self, byte: u8) -> Result<(), Fault> {
-        if refused(self.tripped, Self::LIMIT, byte) {
+        if refused(self.tripped, self.limit(), byte) {
             self.trip();
             return Err(Fault::DriveRefused);
         }

@@ -13,7 +13,7 @@ pub fn drive_both_boards(rt: &LibcRuntime) -> Result<(), AnyError> {
     drive_lamps(rt, "relay box", &mut relays)
 }
 
-// One lamp, two, three, and one again; then a reset, a trip by hand and another reset.
+// One lamp, two, three, one again and none; then, after a reset, one lamp through a trip by hand.
 fn drive_lamps<B: Board>(rt: &LibcRuntime, name: &str, board: &mut B) -> Result<(), AnyError> {
     let limit = board.limit();
     println!(

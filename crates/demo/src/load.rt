@@ -69,7 +69,7 @@ fn refuse_bad_division(rt: &LibcRuntime) -> Result<(), AnyError> {
         ..STATION
     };
     match Converter::new(numbers) {
-        Ok(_) => println!(rt, "  division 3 accepted")?,
+        Ok(_) => return Err("division 3 was accepted".into()),
         Err(fault) => print_refusal(rt, "division 3", fault)?,
     }
     Ok(())
@@ -97,7 +97,11 @@ fn show_each<S: Scale + Drop>(rt: &LibcRuntime, mut scale: S) -> Result<(), AnyE
 
 fn print_reading(rt: &LibcRuntime, label: &str, reading: Reading) -> Result<(), AnyError> {
     let gross = reading.gross;
-    let stable = if reading.stable { "stable" } else { "moving" };
+    let stable = if reading.stable {
+        "stable"
+    } else {
+        "not stable"
+    };
     println!(rt, "  {label:<18} gross {gross:>5}  {stable}")?;
     Ok(())
 }

@@ -1,15 +1,12 @@
 // The calls that the table is about, each made on a new scale or board.
 ghost use mathlib.Core.Path.{_≡_};
-ghost use mathlib.Core.Bool.{false};
 ghost use mathlib.Core.List.{[], _∷_};
 ghost use lib.IntN.{pos};
-ghost use Rattle.std.specs.declared.result.Result.the-variants.{Ok, Err};
 ghost use Rattle.weight.specs.Range.{cut, most};
-ghost use Rattle.weight.specs.declared.fault.Fault.the-variants.{OutOfRange};
-ghost use Rattle.scale.specs.Conversion.{converted, inRange};
-ghost use Rattle.scale.specs.Readings.{mean};
-ghost use Rattle.board.specs.Outputs.{driven, newBoard};
-ghost use Rattle.edges.specs.Edges.{station};
+ghost use Rattle.scale.specs.Kinds.{mean};
+ghost use Rattle.board.specs.Kinds.{transistorLimit};
+ghost use Rattle.board.specs.Outputs.{driveAnswer, driven, newBoard};
+ghost use Rattle.edges.specs.Edges.{exampleSettings, grossAnswer};
 use board::kind::Board;
 use board::transistor::TransistorBoard;
 use board::transistor::TransistorOutputs;
@@ -25,7 +22,7 @@ use weight::fault::Fault;
 
 // The gross weight of a code on a converter with span 40,000, capacity 20,000 and division 5.
 pub fn gross_of_code(zero: i32, code: i32) -> Result<i32, Fault>
-    ensures { λ r. ⌜ elim r [ Ok g ↦ g ≡ converted (station zero (pos 0)) code | Err f ↦ (inRange (station zero (pos 0)) ≡ false) × (f ≡ OutOfRange) ] ⌝ }
+    ensures { λ r. ⌜ r ≡ grossAnswer (exampleSettings zero (pos 0)) code ⌝ }
 {
     let settings = Settings {
         zero,
@@ -60,11 +57,13 @@ pub fn smoothed_pair(a: i32, b: i32) -> i32
     layer.gross()
 }
 
-// What stands on a new transistor board after driving a byte, and whether the board is tripped.
-pub fn driven_once(byte: u8) -> (u8, bool)
-    ensures { λ r. ⌜ (r .0 ≡ driven (newBoard 2) byte .standing) × (r .1 ≡ driven (newBoard 2) byte .tripped) ⌝ }
+// What driving a byte on a new transistor board answers, what stands after it, and whether the board is tripped.
+pub fn driven_once(byte: u8) -> (Result<(), Fault>, u8, bool)
+    ensures answer { λ r. ⌜ r .0 ≡ driveAnswer (newBoard transistorLimit) byte ⌝ }
+    ensures standing { λ r. ⌜ r .1 ≡ driven (newBoard transistorLimit) byte .standing ⌝ }
+    ensures tripped { λ r. ⌜ r .2 ≡ driven (newBoard transistorLimit) byte .tripped ⌝ }
 {
     let mut board = TransistorBoard::new();
-    let _ = board.drive(byte);
-    (board.standing(), board.tripped())
+    let answer = board.drive(byte);
+    (answer, board.standing(), board.tripped())
 }

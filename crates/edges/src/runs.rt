@@ -1,4 +1,4 @@
-// Runs each value of the table, and prints what came out beside what must.
+// Runs each value of the table, and prints what came out beside what is expected.
 use crate::calls::driven_once;
 use crate::calls::gross_of_code;
 use crate::calls::smoothed_pair;
@@ -11,10 +11,10 @@ pub fn run_all(rt: &LibcRuntime) -> Result<(), AnyError> {
 }
 
 fn run_converter(rt: &LibcRuntime) -> Result<(), AnyError> {
-    for (above, must) in [(5, 5), (4, 0), (-5, -5)] {
+    for (above, expected) in [(5, 5), (4, 0), (-5, -5)] {
         match gross_of_code(1_000, 1_000 + above) {
-            Ok(came) => compare(rt, "converter, codes above zero:", above, came, must)?,
-            Err(fault) => println!(rt, "converter refused, fault {}", fault.number())?,
+            Ok(actual) => compare(rt, "converter, codes above zero:", above, actual, expected)?,
+            Err(_) => return judge(false),
         }
     }
     Ok(())
@@ -29,25 +29,31 @@ fn compare(
     rt: &LibcRuntime,
     label: &str,
     input: i32,
-    came: i32,
-    must: i32,
+    actual: i32,
+    expected: i32,
 ) -> Result<(), AnyError> {
-    println!(rt, "{label} {input} shows {came}, must show {must}")?;
-    judge(came == must)
+    println!(rt, "{label} {input} shows {actual}, expected {expected}")?;
+    judge(actual == expected)
 }
 
 fn run_board(rt: &LibcRuntime) -> Result<(), AnyError> {
-    for (byte, stands, trips) in [(0x06u8, 0x06u8, false), (0x07, 0x00, true)] {
-        let (standing, tripped) = driven_once(byte);
+    for (byte, standing, tripped) in [(0x06u8, 0x06u8, false), (0x07, 0x00, true)] {
+        let (answer, stands, trips) = driven_once(byte);
+        let word = if answer.is_ok() {
+            "accepted"
+        } else {
+            "refused"
+        };
         println!(
             rt,
-            "limit 2, {byte:02X}H driven: {standing:02X}H stands, tripped {tripped}; must be {stands:02X}H, {trips}"
+            "limit 2, {byte:02X}H {word}: {stands:02X}H stands, tripped {trips}; expected {standing:02X}H, {tripped}"
         )?;
-        judge(standing == stands && tripped == trips)?;
+        judge(answer.is_err() == tripped && stands == standing && trips == tripped)?;
     }
     Ok(())
 }
 
+// A value that came out wrong ends the program with an error.
 fn judge(right: bool) -> Result<(), AnyError> {
     if right {
         Ok(())
@@ -60,19 +66,16 @@ fn judge(right: bool) -> Result<(), AnyError> {
 mod tests {
     use super::*;
     use std::test::*;
+    use weight::fault::Fault;
+    use weight::fault::FaultDebug;
+    use weight::fault::FaultPartialEq;
 
     #[test]
     fn converter_edges() -> Result<(), Fail> {
-        check_eq(gross_of_code(0, 5).ok().ok_or("refused")?, 5)?;
-        check_eq(
-            gross_of_code(-8_388_602, -8_388_598).ok().ok_or("refused")?,
-            0,
-        )?;
-        check_eq(
-            gross_of_code(8_388_602, 8_388_597).ok().ok_or("refused")?,
-            -5,
-        )?;
-        check(gross_of_code(8_388_608, 0).is_err())
+        check_eq(gross_of_code(0, 5), Ok(5))?;
+        check_eq(gross_of_code(-8_388_602, -8_388_598), Ok(0))?;
+        check_eq(gross_of_code(8_388_602, 8_388_597), Ok(-5))?;
+        check_eq(gross_of_code(8_388_608, 0), Err(Fault::OutOfRange))
     }
 
     #[test]
@@ -84,8 +87,8 @@ mod tests {
 
     #[test]
     fn board_edges() -> Result<(), Fail> {
-        check_eq(driven_once(0x06), (0x06, false))?;
-        check_eq(driven_once(0x07), (0x00, true))?;
-        check_eq(driven_once(0x00), (0x00, false))
+        check_eq(driven_once(0x06), (Ok(()), 0x06, false))?;
+        check_eq(driven_once(0x07), (Err(Fault::DriveRefused), 0x00, true))?;
+        check_eq(driven_once(0x00), (Ok(()), 0x00, false))
     }
 }

@@ -9,7 +9,7 @@ use Rattle.std.proofs.shelf.Signed.{ints}
 use Rattle.weight.specs.Range.{InRange, most}
 use Rattle.weight.proofs.Laws.{rounding-le}
 use Rattle.scale.specs.Figures.{total}
-use Rattle.scale.specs.Readings.{mean}
+use Rattle.scale.specs.Kinds.{mean}
 
 total-size : (a : ℤ) (ws : List ℤ) → ((k : ℕ) → InRange (getD ws k (pos 0))) → natAbs (folded _+ℤ_ a ws) ≤ natAbs a + most * length ws
 total-size a [] h = omega arith

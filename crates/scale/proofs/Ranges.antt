@@ -6,18 +6,19 @@ use native.Mathlib.Omega.{arith}
 use lib.IntN.{natAbs}
 use Rattle.std.proofs.shelf.Signed.{ints}
 use Rattle.std.proofs.shelf.Ways.{tells}
-use Rattle.scale.specs.Conversion.{inRange, lastCode}
+use Rattle.weight.specs.Range.{most}
+use Rattle.scale.specs.Conversion.{settingsInRange, lastCode, widestSpan}
 use Rattle.scale.specs.declared.settings.Settings.{Settings}
 
 pub record Ranges (s : Settings) : Type 0 where
   pub zero : natAbs (s .zero) ≤ lastCode
   pub span-some : 1 ≤ natAbs (s .span)
-  pub span : natAbs (s .span) ≤ 16777215
-  pub capacity : natAbs (s .capacity) ≤ 999999
+  pub span : natAbs (s .span) ≤ widestSpan
+  pub capacity : natAbs (s .capacity) ≤ most
   pub division-some : 1 ≤ natAbs (s .division)
   pub division : natAbs (s .division) ≤ 50
 
-pub ranges : (s : Settings) → inRange s ≡ true → Ranges s
+pub ranges : (s : Settings) → settingsInRange s ≡ true → Ranges s
 ranges s h = record {
   zero = grind (arith, ints, tells);
   span-some = grind (arith, ints, tells);

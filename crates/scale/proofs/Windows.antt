@@ -10,7 +10,7 @@ use lib.ListN.{length, take, set, getD, replicate}
 use Rattle.std.proofs.shelf.Lists.{take-more, take-more-set, take-take, take-all, length-take, getD-take, getD-past, getD-replicate, length-replicate}
 use Rattle.std.proofs.shelf.Tests.{cases-lt}
 use Rattle.weight.specs.Range.{InRange}
-use Rattle.scale.specs.Kept.{newest}
+use Rattle.scale.specs.Kinds.{newest}
 
 -- a list of which m are kept and then n: the fewer of the two
 take-both : {X : Type 0} (m n : ℕ) (xs : List X) → take m (take n xs) ≡ take (min m n) xs

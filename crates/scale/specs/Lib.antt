@@ -1,4 +1,4 @@
 pub mod Conversion
 pub mod Figures
-pub mod Kept
-pub mod Readings
+pub mod Windows
+pub mod Kinds

@@ -1,4 +1,4 @@
-// The analogue converter: it sends codes, from which it is known what weight they stand for.
+// The analogue converter: it sends codes, which its settings turn into weights.
 ghost use mathlib.Core.Path.{_≡_};
 ghost use mathlib.Core.Bool.{true, false};
 ghost use mathlib.Core.List.{[]};
@@ -8,33 +8,38 @@ ghost use Rattle.std.specs.NonZero.{of-u32};
 ghost use Rattle.std.specs.declared.result.Result.the-variants.{Ok, Err};
 ghost use Rattle.weight.specs.Range.{InRange, cut};
 ghost use Rattle.weight.specs.declared.fault.Fault.the-variants.{OutOfRange};
-ghost use Rattle.scale.specs.Conversion.{between, codesInRange, isDivision, inRange, lastCode, weightsInRange, divisor, converted};
-ghost use Rattle.scale.specs.Readings.{converterShows};
-ghost use Rattle.scale.specs.Kept.{kept, newest};
+ghost use Rattle.scale.specs.Conversion.{between, codesInRange, isDivision, settingsInRange, lastCode, weightsInRange, divisor, converted};
+ghost use Rattle.scale.specs.Kinds.{ConverterTakes, converterShows, unsampled};
+ghost use Rattle.scale.specs.Windows.{lastWeights};
 use crate::kind::Scale;
 use crate::reading::Sample;
 use crate::settings::Settings;
 use crate::window::Window;
 use std::num::NonZeroU32;
 use weight::fault::Fault;
+use weight::range::MOST;
 use weight::range::cut_to_range;
 use weight::rounding::rounded;
 
 // The codes of a converter lie from -LAST_CODE to LAST_CODE.
 const LAST_CODE: i32 = 8_388_607;
 
+const WIDEST_SPAN: i32 = 16_777_215;
+
+// A converter is stable over this many of its last weights.
+const SETTLED_OVER: usize = 8;
+
 #[derive(Drop)]
 pub struct Converter {
     settings: Settings,
-    // the last eight gross weights
-    window: Window<8>,
-    ghost made: { inRange settings ≡ true },
+    window: Window<SETTLED_OVER>,
+    ghost made: { settingsInRange settings ≡ true },
 }
 
 impl Converter {
     // A converter of these numbers, from which no sample has come.
-    pub fn new(settings: Settings) -> Result<Converter, Fault>
-        ensures { λ r. ⌜ elim r [ Ok c ↦ (inRange settings ≡ true) × (c .settings ≡ settings) × (kept (c .window) ≡ []) | Err f ↦ (inRange settings ≡ false) × (f ≡ OutOfRange) ] ⌝ }
+    pub fn new(settings: Settings) -> Result<Self, Fault>
+        ensures { λ r. ⌜ elim r [ Ok c ↦ (settingsInRange settings ≡ true) × (c .settings ≡ settings) × (lastWeights (c .window) ≡ []) × (converterShows (c .settings) (lastWeights (c .window)) ≡ unsampled) | Err f ↦ (settingsInRange settings ≡ false) × (f ≡ OutOfRange) ] ⌝ }
     {
         if !in_range(&settings) {
             return Err(Fault::OutOfRange);
@@ -47,16 +52,16 @@ impl Converter {
 }
 
 pub impl Scale for Converter as ConverterScale {
-    ghost shows = { λ c. converterShows (c .settings) (kept (c .window)) };
+    ghost shows = { λ c. converterShows (c .settings) (lastWeights (c .window)) };
 
-    ghost takes = { λ c s d. (d .settings ≡ c .settings) × (kept (d .window) ≡ newest 8 (converted (c .settings) (s .value)) (kept (c .window))) };
+    ghost takes = { λ c x d. ConverterTakes (c .settings) (lastWeights (c .window)) x (d .settings) (lastWeights (d .window)) };
 
     fn gross(&self) -> i32 {
         self.window.latest()
     }
 
     fn stable(&self) -> bool {
-        self.window.len() == 8 && self.window.spread() <= self.settings.width as i64
+        self.window.len() == SETTLED_OVER && self.window.spread() <= self.settings.width as i64
     }
 
     fn sample(&mut self, sample: Sample) {
@@ -67,7 +72,7 @@ pub impl Scale for Converter as ConverterScale {
 
 // Whether each number is in its range.
 fn in_range(s: &Settings) -> bool
-    ensures { λ r. ⌜ r ≡ inRange (now (s .entry)) ⌝ }
+    ensures { λ r. ⌜ r ≡ settingsInRange (now (s .entry)) ⌝ }
 {
     codes_in_range(s) && weights_in_range(s)
 }
@@ -75,13 +80,13 @@ fn in_range(s: &Settings) -> bool
 fn codes_in_range(s: &Settings) -> bool
     ensures { λ r. ⌜ r ≡ codesInRange (now (s .entry)) ⌝ }
 {
-    is_between(s.zero, -LAST_CODE, LAST_CODE) && is_between(s.span, 1, 16_777_215)
+    is_between(s.zero, -LAST_CODE, LAST_CODE) && is_between(s.span, 1, WIDEST_SPAN)
 }
 
 fn weights_in_range(s: &Settings) -> bool
     ensures { λ r. ⌜ r ≡ weightsInRange (now (s .entry)) ⌝ }
 {
-    is_between(s.capacity, 1, 999_999) && is_division(s.division) && is_between(s.width, 0, 999_999)
+    is_between(s.capacity, 1, MOST) && is_division(s.division) && is_between(s.width, 0, MOST)
 }
 
 fn is_between(n: i32, low: i32, high: i32) -> bool
@@ -93,7 +98,7 @@ fn is_between(n: i32, low: i32, high: i32) -> bool
 fn is_division(e: i32) -> bool
     ensures { λ r. ⌜ r ≡ isDivision e ⌝ }
 {
-    e == 1 || e == 2 || e == 5 || e == 10 || e == 20 || e == 50
+    matches!(e, 1 | 2 | 5 | 10 | 20 | 50)
 }
 
 // A code beyond the converter's ends counts as the nearer end.
@@ -124,7 +129,7 @@ fn times(a: i64, k: i32) -> i64
 
 // What the product of code and capacity is divided by: span times division.
 fn divisor_of(s: &Settings) -> NonZeroU32
-    requires { ⌜ inRange (now s) ≡ true ⌝ }
+    requires { ⌜ settingsInRange (now s) ≡ true ⌝ }
     ensures { λ r. ⌜ of-u32 r ≡ divisor (now (s .entry)) ⌝ }
 {
     NonZeroU32::new(s.span.unsigned_abs() * s.division.unsigned_abs()).unwrap()
@@ -132,7 +137,7 @@ fn divisor_of(s: &Settings) -> NonZeroU32
 
 // The gross weight of a code.
 fn weight_of(s: &Settings, code: i32) -> i32
-    requires { ⌜ inRange (now s) ≡ true ⌝ }
+    requires { ⌜ settingsInRange (now s) ≡ true ⌝ }
     ensures value { λ r. ⌜ r ≡ converted (now (s .entry)) code ⌝ }
     ensures range { λ r. ⌜ InRange r ⌝ }
 {

@@ -1,7 +1,7 @@
 // The transmitter head: it sends weights, and marks itself whether they are steady.
 ghost use mathlib.Core.Path.{_≡_};
 ghost use Rattle.weight.specs.Range.{InRange};
-ghost use Rattle.scale.specs.Readings.{unsampled, relayed};
+ghost use Rattle.scale.specs.Kinds.{unsampled, headShows};
 use crate::kind::Scale;
 use crate::reading::Reading;
 use crate::reading::Sample;
@@ -15,7 +15,7 @@ pub struct Head {
 
 impl Head {
     // A head from which no sample has come.
-    pub fn new() -> Head
+    pub fn new() -> Self
         ensures { λ r. ⌜ r .reading ≡ unsampled ⌝ }
     {
         Head {
@@ -30,7 +30,7 @@ impl Head {
 pub impl Scale for Head as HeadScale {
     ghost shows = { λ h. h .reading };
 
-    ghost takes = { λ h s k. k .reading ≡ relayed s };
+    ghost takes = { λ h s k. k .reading ≡ headShows s };
 
     fn gross(&self) -> i32 {
         self.reading.gross

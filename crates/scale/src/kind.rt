@@ -16,7 +16,7 @@ pub trait Scale {
 
     law ranged: { (s : Self) → InRange (shows s .gross) };
 
-    // The gross weight.
+    // The gross weight. That it is in range is said of the answer too, so that sums of weights need no law.
     fn gross(&self) -> i32
         ensures value { λ r. ⌜ r ≡ shows (now (self .entry)) .gross ⌝ }
         ensures range { λ r. ⌜ InRange r ⌝ };

@@ -3,26 +3,29 @@ ghost use mathlib.Core.Path.{_≡_};
 ghost use mathlib.Core.List.{[]};
 ghost use Prim.Native.Nat.{_≤_};
 ghost use Rattle.weight.specs.Range.{InRange};
-ghost use Rattle.scale.specs.Readings.{mean, smoothed};
-ghost use Rattle.scale.specs.Kept.{kept, newest};
+ghost use Rattle.scale.specs.Kinds.{SmoothingTakes, mean, smoothingShows, unsampled};
+ghost use Rattle.scale.specs.Windows.{lastWeights};
 use crate::kind::Scale;
 use crate::reading::Sample;
 use crate::window::Window;
 use std::num::NonZeroU32;
 use weight::rounding::rounded;
 
+// The mean is taken over this many of the last weights below.
+const MEAN_OVER: usize = 4;
+
 #[derive(Drop)]
 pub struct Smoothing<S: Scale> {
-    // the last four gross weights below
-    window: Window<4>,
+    window: Window<MEAN_OVER>,
     below: S,
 }
 
 impl<S: Scale> Smoothing<S> {
     // A layer over this scale; no sample has come through the layer yet.
-    pub fn new(below: S) -> Smoothing<S>
+    pub fn new(below: S) -> Self
         ensures below { λ r. ⌜ r .below ≡ below ⌝ }
-        ensures window { λ r. ⌜ kept (r .window) ≡ [] ⌝ }
+        ensures window { λ r. ⌜ lastWeights (r .window) ≡ [] ⌝ }
+        ensures shows { λ r. ⌜ smoothingShows (lastWeights (r .window)) (S·Scale .shows (r .below)) ≡ unsampled ⌝ }
     {
         Smoothing {
             window: Window::new(),
@@ -32,9 +35,9 @@ impl<S: Scale> Smoothing<S> {
 }
 
 pub impl<S: Scale> Scale for Smoothing<S> as SmoothingScale {
-    ghost shows = { λ s. smoothed (kept (s .window)) (S·Scale .shows (s .below)) };
+    ghost shows = { λ s. smoothingShows (lastWeights (s .window)) (S·Scale .shows (s .below)) };
 
-    ghost takes = { λ s x t. S·Scale .takes (s .below) x (t .below) × (kept (t .window) ≡ newest 4 (S·Scale .shows (t .below) .gross) (kept (s .window))) };
+    ghost takes = { λ s x t. S·Scale .takes (s .below) x (t .below) × SmoothingTakes (lastWeights (s .window)) (S·Scale .shows (t .below)) (lastWeights (t .window)) };
 
     fn gross(&self) -> i32 {
         mean_of(&self.window)
@@ -50,10 +53,10 @@ pub impl<S: Scale> Scale for Smoothing<S> as SmoothingScale {
     }
 }
 
-// The rounded mean of the weights, or 0 of none.
+// The rounded mean of the weights, or 0 of none; K is small enough for their sum.
 fn mean_of<const K: usize>(window: &Window<K>) -> i32
     requires { ⌜ K ≤ 1000 ⌝ }
-    ensures value { λ r. ⌜ r ≡ mean (kept (now (window .entry))) ⌝ }
+    ensures value { λ r. ⌜ r ≡ mean (lastWeights (now (window .entry))) ⌝ }
     ensures range { λ r. ⌜ InRange r ⌝ }
 {
     match NonZeroU32::new(window.len() as u32) {

@@ -14,7 +14,7 @@ use Rattle.std.proofs.shelf.Signed.{ints, folded-maxZ-bounds, folded-maxZ-reach
 use Rattle.std.proofs.shelf.Tests.{and-parts, and-from}
 use Rattle.std.proofs.shelf.Ways.{tells}
 use Rattle.scale.specs.Figures.{highest, lowest, spread}
-use Rattle.scale.specs.Readings.{settled}
+use Rattle.scale.specs.Kinds.{settled}
 use Rattle.weighing.specs.Settling.{Alike, Settled-when-alike}
 
 below-highest : (ws : List ℤ) (i : ℕ) → i < length ws → getD ws i (pos 0) ≤ℤ highest ws

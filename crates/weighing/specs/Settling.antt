@@ -6,12 +6,12 @@ use lib.IntN.{ℤ, pos, _-ℤ_}
 use lib.ListN.{length, getD}
 use lib.Signed.{_≤ℤ_}
 use Rattle.std.specs.Orderings.{Decides}
-use Rattle.scale.specs.Readings.{settled}
+use Rattle.scale.specs.Kinds.{settled, settledOver}
 
 -- there are eight of them, and every two differ by at most r
 pub record Alike (r : ℤ) (ws : List ℤ) : Type 0 where
-  pub eight : length ws ≡ 8
-  pub near : (i j : ℕ) → i < 8 → j < 8 → (getD ws i (pos 0) -ℤ getD ws j (pos 0)) ≤ℤ r
+  pub eight : length ws ≡ settledOver
+  pub near : (i j : ℕ) → i < settledOver → j < settledOver → (getD ws i (pos 0) -ℤ getD ws j (pos 0)) ≤ℤ r
 
 abbrev pub Settled-when-alike : Type 0
 Settled-when-alike = (r : ℤ) (ws : List ℤ) → Decides (settled r ws) (Alike r ws)

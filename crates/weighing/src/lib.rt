@@ -1,13 +1,9 @@
 // Whole weighings: what a scale shows after any series of samples.
 ghost use mathlib.Core.Path.{_≡_};
-ghost use mathlib.Core.Bool.{true, false};
 ghost use mathlib.Core.List.{[], reverse};
-ghost use Rattle.std.specs.declared.result.Result.the-variants.{Ok, Err};
-ghost use Rattle.weight.specs.declared.fault.Fault.the-variants.{OutOfRange};
-ghost use Rattle.scale.specs.Conversion.{inRange};
-ghost use Rattle.scale.specs.Kept.{kept};
-ghost use Rattle.scale.specs.Readings.{unsampled};
-ghost use Rattle.weighing.specs.Courses.{Weighed, Smoothed, latest, headCourse, converterCourse, smoothedCourse};
+ghost use Rattle.scale.specs.Windows.{lastWeights};
+ghost use Rattle.scale.specs.Kinds.{unsampled};
+ghost use Rattle.weighing.specs.Traces.{Weighed, Smoothed, converterAnswer, latest, headTrace, converterTrace, smoothedTrace};
 ghost use Rattle.weighing.specs.Settling.{Settled-when-alike};
 use scale::converter::Converter;
 use scale::converter::ConverterScale;
@@ -30,14 +26,14 @@ pub fn weigh<S: Scale>(scale: &mut S, samples: &[Sample])
 
 // What a new head shows after these samples.
 pub fn weigh_by_head(samples: &[Sample]) -> Reading
-    ensures { λ r. ⌜ r ≡ latest (headCourse (reverse (now (samples .entry)))) ⌝ }
+    ensures { λ r. ⌜ r ≡ latest (headTrace (reverse (now (samples .entry)))) ⌝ }
 {
     head_shows(Head::new(), samples)
 }
 
 // What a new converter of these numbers shows after these samples.
 pub fn weigh_by_converter(settings: Settings, samples: &[Sample]) -> Result<Reading, Fault>
-    ensures { λ r. ⌜ elim r [ Ok g ↦ (inRange settings ≡ true) × (g ≡ latest (converterCourse settings (reverse (now (samples .entry))))) | Err f ↦ (inRange settings ≡ false) × (f ≡ OutOfRange) ] ⌝ }
+    ensures { λ r. ⌜ r ≡ converterAnswer settings (converterTrace settings (reverse (now (samples .entry)))) ⌝ }
 {
     let converter = Converter::new(settings)?;
     Ok(converter_shows(converter, samples))
@@ -52,7 +48,7 @@ pub fn weigh_smoothed<S: Scale + Drop>(below: S, samples: &[Sample]) -> Reading
 
 // What a smoothing layer over a converter shows after these samples.
 pub fn weigh_by_smoothed_converter(settings: Settings, samples: &[Sample]) -> Result<Reading, Fault>
-    ensures { λ r. ⌜ elim r [ Ok g ↦ (inRange settings ≡ true) × (g ≡ latest (smoothedCourse (converterCourse settings (reverse (now (samples .entry)))))) | Err f ↦ (inRange settings ≡ false) × (f ≡ OutOfRange) ] ⌝ }
+    ensures { λ r. ⌜ r ≡ converterAnswer settings (smoothedTrace (converterTrace settings (reverse (now (samples .entry))))) ⌝ }
 {
     let converter = Converter::new(settings)?;
     Ok(smoothed_converter_shows(converter, samples))
@@ -60,7 +56,7 @@ pub fn weigh_by_smoothed_converter(settings: Settings, samples: &[Sample]) -> Re
 
 // What two smoothing layers over a head show after these samples.
 pub fn weigh_by_twice_smoothed_head(samples: &[Sample]) -> Reading
-    ensures { λ r. ⌜ r ≡ latest (smoothedCourse (smoothedCourse (headCourse (reverse (now (samples .entry)))))) ⌝ }
+    ensures { λ r. ⌜ r ≡ latest (smoothedTrace (smoothedTrace (headTrace (reverse (now (samples .entry)))))) ⌝ }
 {
     smoothed_layer_shows(Smoothing::new(Head::new()), samples)
 }
@@ -82,22 +78,22 @@ fn hand_over<S: Scale>(scale: &mut S, samples: &[Sample])
 
 fn head_shows(mut head: Head, samples: &[Sample]) -> Reading
     requires { ⌜ head .reading ≡ unsampled ⌝ }
-    ensures { λ r. ⌜ r ≡ latest (headCourse (reverse (now (samples .entry)))) ⌝ }
+    ensures { λ r. ⌜ r ≡ latest (headTrace (reverse (now (samples .entry)))) ⌝ }
 {
     weigh(&mut head, samples);
     head.read()
 }
 
 fn converter_shows(mut converter: Converter, samples: &[Sample]) -> Reading
-    requires { ⌜ kept (converter .window) ≡ [] ⌝ }
-    ensures { λ r. ⌜ r ≡ latest (converterCourse (converter .settings) (reverse (now (samples .entry)))) ⌝ }
+    requires { ⌜ lastWeights (converter .window) ≡ [] ⌝ }
+    ensures { λ r. ⌜ r ≡ latest (converterTrace (converter .settings) (reverse (now (samples .entry)))) ⌝ }
 {
     weigh(&mut converter, samples);
     converter.read()
 }
 
 fn layer_shows<S: Scale + Drop>(mut layer: Smoothing<S>, samples: &[Sample]) -> Reading
-    requires { ⌜ kept (layer .window) ≡ [] ⌝ }
+    requires { ⌜ lastWeights (layer .window) ≡ [] ⌝ }
     ensures { λ r. ⌜ ((b : S) → layer .below ≡ b → Smoothed shows takes b (now (samples .entry)) r) ⌝ }
 {
     weigh(&mut layer, samples);
@@ -105,15 +101,15 @@ fn layer_shows<S: Scale + Drop>(mut layer: Smoothing<S>, samples: &[Sample]) -> 
 }
 
 fn smoothed_converter_shows(converter: Converter, samples: &[Sample]) -> Reading
-    requires { ⌜ kept (converter .window) ≡ [] ⌝ }
-    ensures { λ r. ⌜ r ≡ latest (smoothedCourse (converterCourse (converter .settings) (reverse (now (samples .entry))))) ⌝ }
+    requires { ⌜ lastWeights (converter .window) ≡ [] ⌝ }
+    ensures { λ r. ⌜ r ≡ latest (smoothedTrace (converterTrace (converter .settings) (reverse (now (samples .entry))))) ⌝ }
 {
     weigh_smoothed(converter, samples)
 }
 
 fn smoothed_layer_shows(layer: Smoothing<Head>, samples: &[Sample]) -> Reading
-    requires { ⌜ kept (layer .window) ≡ [] ⌝ }
-    ensures { λ r. ⌜ r ≡ latest (smoothedCourse (smoothedCourse (headCourse (reverse (now (samples .entry)))))) ⌝ }
+    requires { ⌜ lastWeights (layer .window) ≡ [] ⌝ }
+    ensures { λ r. ⌜ r ≡ latest (smoothedTrace (smoothedTrace (headTrace (reverse (now (samples .entry)))))) ⌝ }
 {
     weigh_smoothed(layer, samples)
 }

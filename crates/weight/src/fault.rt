@@ -5,58 +5,43 @@ ghost use Rattle.weight.specs.Faults.{numberOf};
 #[derive(Clone, Copy, PartialEq, Eq, Debug)]
 pub enum Fault {
     // a number of a recipe or converter is out of its range
-    OutOfRange,
+    OutOfRange = 1,
     // the numbers of a recipe do not fit each other
-    Inconsistent,
+    Inconsistent = 2,
     // run, load or clear away from rest
-    NotAtRest,
+    NotAtRest = 3,
     // run without a recipe
-    NoRecipe,
+    NoRecipe = 4,
     // a new line's address is no letter from A to Z
-    BadAddress,
+    BadAddress = 5,
     // run with full totals
-    TotalsFull,
+    TotalsFull = 6,
     // finish, stop or pause at rest
-    AtRest,
-    // the board refuses the byte that it is driven with
-    DriveRefused,
+    AtRest = 7,
+    // a tick's drive is refused; a board answers the same of the drive itself
+    DriveRefused = 8,
     // a ring over no places
-    NoPlaces,
+    NoPlaces = 9,
     // a frame that is too short or too long
-    FrameLength,
+    FrameLength = 10,
     // a frame whose first or last byte is wrong
-    FrameEnds,
+    FrameEnds = 11,
     // a frame whose check digits differ
-    FrameCheck,
+    FrameCheck = 12,
     // a frame for another address
-    OtherAddress,
+    OtherAddress = 13,
     // a frame with an unknown letter, or with wrong data
-    BadCommand,
+    BadCommand = 14,
     // a reply buffer that is too short
-    ReplyRoom,
+    ReplyRoom = 15,
 }
 
 impl Fault {
-    // The number that operators and hosts know the refusal by.
+    // The number that operators and hosts know the refusal by. No other refusal has it.
     pub fn number(&self) -> u8
-        ensures { λ r. ⌜ r ≡ numberOf (now (self .entry)) ⌝ }
+        ensures value { λ r. ⌜ r ≡ numberOf (now (self .entry)) ⌝ }
+        ensures alone { λ r. ⌜ ((f : Fault) → numberOf f ≡ r → f ≡ now (self .entry)) ⌝ }
     {
-        match self {
-            Fault::OutOfRange => 1,
-            Fault::Inconsistent => 2,
-            Fault::NotAtRest => 3,
-            Fault::NoRecipe => 4,
-            Fault::BadAddress => 5,
-            Fault::TotalsFull => 6,
-            Fault::AtRest => 7,
-            Fault::DriveRefused => 8,
-            Fault::NoPlaces => 9,
-            Fault::FrameLength => 10,
-            Fault::FrameEnds => 11,
-            Fault::FrameCheck => 12,
-            Fault::OtherAddress => 13,
-            Fault::BadCommand => 14,
-            Fault::ReplyRoom => 15,
-        }
+        *self as u8
     }
 }

@@ -2,8 +2,8 @@ use mathlib.Core.List.{[], _∷_}
 use mathlib.Core.Bool.{false}
 use lib.IntN.{pos}
 use Rattle.std.proofs.shelf.Lists.{take-all}
-use Rattle.weighing.specs.Courses.{start, next}
-use Rattle.weighing.proofs.Courses.{reverse-more}
+use Rattle.weighing.specs.Traces.{start, next}
+use Rattle.weighing.proofs.Traces.{reverse-more}
 use Rattle.weighing.proofs.hand_over.Needs as need
 
 pub loop-sample-holds : need.loop-sample-holds

@@ -1,5 +1,5 @@
 use lib.ListN.{take}
-use Rattle.weighing.specs.Courses.{Weighed}
+use Rattle.weighing.specs.Traces.{Weighed}
 use Rattle.weighing.proofs.hand_over.Given as given
 
 abbrev pub Inv-loop-sample : given.InvT-loop-sample

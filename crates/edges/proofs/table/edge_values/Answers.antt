@@ -1,5 +1,5 @@
 use mathlib.Core.Path.{_≡_, refl, ap, _∙_}
-use Prim.Native.Nat.{suc, _≤_, min}
+use Prim.Native.Nat.{suc, _+_, _≤_, min}
 use native.Mathlib.Omega.{arith}
 use lib.Count.{ones, onesIn}
 use lib.IntN.{ℤ, pos, negsuc, natAbs, _+ℤ_, _-ℤ_}
@@ -16,10 +16,10 @@ inside : (z : ℤ) → natAbs z ≤ lastCode → cut lastCode z ≡ z
 inside (pos n) h = grind arith
 inside (negsuc n) h = let e : min (suc n) lastCode ≡ suc n = grind arith in rw e
 
-above : (z d : ℤ) → natAbs z ≤ 8388602 → natAbs d ≤ 5 → cut lastCode (z +ℤ d) -ℤ z ≡ d
+above : (z d : ℤ) → natAbs z + 5 ≤ lastCode → natAbs d ≤ 5 → cut lastCode (z +ℤ d) -ℤ z ≡ d
 above z d h k = ap (λ x. x -ℤ z) (inside (z +ℤ d) (search (arith, ints))) ∙ omega (arith, ints)
 
-codes : (z r : ℤ) → natAbs z ≤ 8388602 → Converter-edges z r
+codes : (z r : ℤ) → natAbs z + 5 ≤ lastCode → Converter-edges z r
 unfolding converted rounding
 codes z r h = record {
   five-above = rw (above z (pos 5) h (omega arith));

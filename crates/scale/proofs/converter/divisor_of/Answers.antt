@@ -1,6 +1,7 @@
 use borrow.Author.Needs.{needs}
 use Rattle.std.proofs.shelf.Bits.{mul-le}
 use lib.IntN.{natAbs}
+use Rattle.scale.specs.Conversion.{widestSpan}
 use Rattle.scale.proofs.Ranges.{ranges}
 use Rattle.scale.proofs.converter.divisor_of.Needs as need
 
@@ -8,7 +9,7 @@ pub mul-unsigned-abs : need.mul-unsigned-abs
 mul-unsigned-abs c =
     let s = c .args .s .now in
     let g = ranges s (c .pre) in
-    let high = mul-le (natAbs (s .span)) (natAbs (s .division)) 16777215 50 (g .span) (g .division) in
+    let high = mul-le (natAbs (s .span)) (natAbs (s .division)) widestSpan 50 (g .span) (g .division) in
     search needs
 
 pub unwrap-requires : need.unwrap-requires

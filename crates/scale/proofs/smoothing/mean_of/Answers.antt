@@ -1,5 +1,5 @@
 use borrow.Author.Needs.{needs}
-use Rattle.scale.specs.Kept.{kept}
+use Rattle.scale.specs.Windows.{lastWeights}
 use Rattle.scale.proofs.Means.{mean-ranged}
 use Rattle.scale.proofs.Windows.{take-ranged}
 use Rattle.scale.proofs.smoothing.mean_of.Needs as need
@@ -7,5 +7,5 @@ use Rattle.scale.proofs.smoothing.mean_of.Needs as need
 pub returns-in-Some : need.returns-in-Some
 returns-in-Some g c =
     let w = c .args .window .now in
-    let b = mean-ranged (kept w) (take-ranged (w .count) (w .weights) (w .ranged)) in
+    let b = mean-ranged (lastWeights w) (take-ranged (w .count) (w .weights) (w .ranged)) in
     record { value = search needs; range = search needs }

@@ -1,7 +1,7 @@
 use borrow.Author.Needs.{needs}
 use native.Mathlib.Omega.{arith}
 use mathlib.Core.Path.{_≡_}
-use Rattle.scale.specs.Kept.{newest}
+use Rattle.scale.specs.Kinds.{newest}
 use Rattle.scale.proofs.Windows.{pushed, length-shifted, newest-ranged}
 use Rattle.scale.proofs.window.Window.push.Needs as need
 

@@ -7,7 +7,7 @@ use mir.Syntax.{w32}
 use mir.Val.{SFits}
 use Rattle.std.proofs.shelf.Lists.{length-replicate, length-set}
 use Rattle.std.proofs.shelf.Signed.{toZ-ofZ}
-use Rattle.scale.specs.Kept.{newest}
+use Rattle.scale.specs.Kinds.{newest}
 use Rattle.scale.proofs.Windows.{copy-holds, copy-again, copy-all}
 use Rattle.scale.proofs.window.calls.shifted_in.Needs as need
 

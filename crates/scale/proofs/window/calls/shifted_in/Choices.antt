@@ -1,6 +1,6 @@
 use mathlib.Core.Path.{_≡_}
 use lib.ListN.{take, length}
-use Rattle.scale.specs.Kept.{newest}
+use Rattle.scale.specs.Kinds.{newest}
 use Rattle.scale.proofs.window.calls.shifted_in.Given as given
 
 abbrev pub Inv-loop-i : given.InvT-loop-i

@@ -1,7 +1,7 @@
 // What a scale is handed, and what it shows.
 
 // A number from the weighing device, with its mark that the load is steady.
-#[derive(Clone, Copy, PartialEq, Eq, Debug)]
+#[derive(Clone, Copy)]
 pub struct Sample {
     pub value: i32,
     pub steady: bool,

@@ -1,7 +1,7 @@
 // The numbers that a converter is set up with.
 
 // Any numbers: whether they are in range is the converter's to say.
-#[derive(Clone, Copy, PartialEq, Eq, Debug)]
+#[derive(Clone, Copy)]
 pub struct Settings {
     // the code of the unloaded scale
     pub zero: i32,

@@ -10,7 +10,9 @@ use lib.ListN.{length, take, set, getD, replicate}
 use Rattle.std.proofs.shelf.Lists.{take-more, take-more-set, take-take, take-all, length-take, getD-take, getD-past, getD-replicate, length-replicate}
 use Rattle.std.proofs.shelf.Tests.{cases-lt}
 use Rattle.weight.specs.Range.{InRange}
+use Rattle.scale.specs.declared.window.Window.{Window}
 use Rattle.scale.specs.Kinds.{newest}
+use Rattle.scale.specs.Windows.{lastWeights}
 
 -- a list of which m are kept and then n: the fewer of the two
 take-both : {X : Type 0} (m n : ℕ) (xs : List X) → take m (take n xs) ≡ take (min m n) xs
@@ -29,11 +31,8 @@ pushed K n ws w =
     let e : min (min K (n + 1)) K ≡ min K (n + 1) = omega arith in
     take-both (min K (n + 1)) K (w ∷ ws) ∙ ap (λ k. take k (w ∷ ws)) e ∙ sym (take-both K (n + 1) (w ∷ ws)) ∙ rw (add-one n)
 
-length-newest : (K : ℕ) (ws : List ℤ) (w : ℤ) → K ≤ length ws + 1 → length (newest K w ws) ≡ K
-length-newest K ws w h = rw (length-take K (w ∷ ws)) (omega arith)
-
 pub length-shifted : (K : ℕ) (ws : List ℤ) (w : ℤ) → length ws ≡ K → length (newest K w ws) ≡ K
-length-shifted K ws w e = length-newest K ws w (omega arith)
+length-shifted K ws w e = rw (length-take K (w ∷ ws)) (omega arith)
 
 -- weights in the range
 pub zeros-ranged : (K k : ℕ) → InRange (getD (replicate K (pos 0)) k (pos 0))
@@ -43,12 +42,15 @@ zeros-ranged K k =
     (λ l. let p : length (replicate K (pos 0)) ≤ k = rw (length-replicate K (pos 0)) l in rw (getD-past (replicate K (pos 0)) k (pos 0) p) (omega arith))
     (cases-lt k K)
 
-pub take-ranged : (m : ℕ) (ws : List ℤ) → ((k : ℕ) → InRange (getD ws k (pos 0))) → (k : ℕ) → InRange (getD (take m ws) k (pos 0))
+take-ranged : (m : ℕ) (ws : List ℤ) → ((k : ℕ) → InRange (getD ws k (pos 0))) → (k : ℕ) → InRange (getD (take m ws) k (pos 0))
 take-ranged m ws h k =
     ⊎-elim
     (λ l. rw (getD-take m ws k (pos 0) l) (h k))
     (λ (l : m ≤ k). let p : length (take m ws) ≤ k = rw (length-take m ws) (omega arith) in rw (getD-past (take m ws) k (pos 0) p) (omega arith))
     (cases-lt k m)
+
+pub window-ranged : {K : ℕ} (v : Window K) (k : ℕ) → InRange (getD (lastWeights v) k (pos 0))
+window-ranged v = take-ranged (v .count) (v .weights) (v .ranged)
 
 more-ranged : (w : ℤ) (ws : List ℤ) → InRange w → ((k : ℕ) → InRange (getD ws k (pos 0))) → (k : ℕ) → InRange (getD (w ∷ ws) k (pos 0))
 more-ranged w ws b h zero = b

@@ -1,4 +1,6 @@
 // Output boards: eight outputs, O0 to O7, driven by bytes in which bit n is On.
+#![tactic(auto)]
+
 pub mod kind;
 mod refusal;
 pub mod relay;

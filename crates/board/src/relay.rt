@@ -3,7 +3,7 @@ ghost use Rattle.std.specs.Prelude.{◌≡◌, ◌≤◌, if◌then◌else◌};
 ghost use Rattle.board.specs.Outputs.{new_board};
 ghost use Rattle.board.specs.Kinds.{relay_limit, relay_outputs};
 ghost use Rattle.board.specs.Relays.{bits, byte_of};
-ghost use Rattle.std.proofs.Common.{rules};
+ghost use Rattle.std.proofs.Common.{lit≤};
 
 use crate::kind::Board;
 use crate::refusal::refused;
@@ -79,7 +79,7 @@ impl RelayBox {
 impl Board for RelayBox {
     ghost has = { relay_outputs };
 
-    ghost limited = { Prim.search rules };
+    ghost limited = { λ b. lit≤ tt };
 
     fn standing(&self) -> u8 {
         byte_of(self.relays)

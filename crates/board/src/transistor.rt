@@ -2,7 +2,7 @@
 ghost use Rattle.std.specs.Prelude.{◌≡◌};
 ghost use Rattle.board.specs.Outputs.{new_board};
 ghost use Rattle.board.specs.Kinds.{transistor_limit, transistor_outputs};
-ghost use Rattle.std.proofs.Common.{rules};
+ghost use Rattle.std.proofs.Common.{lit≤};
 
 use crate::kind::Board;
 use crate::refusal::refused;
@@ -31,7 +31,7 @@ impl TransistorBoard {
 impl Board for TransistorBoard {
     ghost has = { transistor_outputs };
 
-    ghost limited = { Prim.search rules };
+    ghost limited = { λ b. lit≤ tt };
 
     fn standing(&self) -> u8 {
         self.standing

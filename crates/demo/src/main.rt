@@ -1,4 +1,5 @@
 // Commissions a station: a test load is weighed, and the lamps on both kinds of output board are driven.
+#![tactic(auto)]
 
 mod lamps;
 mod load;

@@ -1,4 +1,5 @@
 // Filling recipes are drafted, and items are sorted, kept and totalled.
+#![tactic(auto)]
 
 mod bags;
 mod items;

@@ -1,4 +1,5 @@
 // The values at the edges of the rules: proved as one table, and run here by the code that the table is about.
+#![tactic(auto)]
 
 mod calls;
 mod runs;

@@ -1,5 +1,6 @@
 // The edge values of items, channels and their weights: proved as one table, and run here by the code that the table
 // is about.
+#![tactic(auto)]
 
 mod calls;
 mod runs;

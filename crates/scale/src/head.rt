@@ -2,7 +2,6 @@
 ghost use Rattle.std.specs.Prelude.{◌≡◌};
 ghost use Rattle.weight.specs.Range.{InRange};
 ghost use Rattle.scale.specs.Kinds.{unsampled, head_shows};
-ghost use Rattle.std.proofs.Common.{rules, arith};
 
 use crate::kind::Scale;
 use crate::reading::{Reading, Sample};
@@ -33,7 +32,7 @@ impl Scale for Head {
 
     ghost takes = { λ h s k. k.reading ≡ head_shows s };
 
-    ghost ranged = { first_of (Prim.search rules, Prim.grind (arith, Self.row.coded.inj)) };
+    ghost ranged = { λ h. h.ranged };
 
     fn gross(&self) -> i32 {
         self.reading.gross

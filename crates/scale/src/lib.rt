@@ -1,4 +1,6 @@
 // Scales: what every scale answers, and three kinds of them.
+#![tactic(auto)]
+
 pub mod converter;
 pub mod head;
 pub mod kind;

@@ -1,7 +1,6 @@
 // What a store may keep of a weight.
-ghost use Rattle.std.specs.Prelude.{◌≡◌, ℕ, ℤ};
+ghost use Rattle.std.specs.Prelude.{◌≡◌, ℕ, ℤ, refl};
 ghost use Rattle.store.specs.Records.{weight_alone, weight_of, stamped, stamped_weight};
-ghost use Rattle.std.proofs.Common.{rules};
 
 pub trait Record: Copy {
     // the record of a weight that was taken at a tick
@@ -29,7 +28,7 @@ impl Record for Weight {
 
     ghost weighs = { weight_of };
 
-    ghost faithful = { Prim.search rules };
+    ghost faithful = { λ w t. refl };
 
     fn of(weight: i32, tick: u32) -> Weight {
         Weight(weight)
@@ -52,7 +51,7 @@ impl Record for Stamped {
 
     ghost weighs = { stamped_weight };
 
-    ghost faithful = { Prim.search rules };
+    ghost faithful = { λ w t. refl };
 
     fn of(weight: i32, tick: u32) -> Stamped {
         Stamped { weight, tick }

@@ -1,4 +1,6 @@
 // Whole weighings: what a scale shows after any series of samples.
+#![tactic(auto)]
+
 ghost use Rattle.std.specs.Prelude.{◌≡◌, [], reverse};
 ghost use Rattle.scale.specs.Windows.{last_weights};
 ghost use Rattle.scale.specs.Kinds.{unsampled};
@@ -15,7 +17,7 @@ use weight::fault::Fault;
 
 // Hands samples to a scale, oldest first.
 pub fn weigh<S: Scale>(scale: &mut S, samples: &[Sample])
-    ensures { Weighed shows takes scale.old samples.now scale.new }
+    ensures { Weighed S.shows S.takes scale.old samples.now scale.new }
 {
     hand_over(scale, samples);
 }
@@ -37,7 +39,7 @@ pub fn weigh_by_converter(settings: Settings, samples: &[Sample]) -> Result<Read
 
 // What a new smoothing layer over any scale shows after these samples.
 pub fn weigh_smoothed<S: Scale + Drop>(below: S, samples: &[Sample]) -> Reading
-    ensures { Smoothed shows takes below samples.now result }
+    ensures { Smoothed S.shows S.takes below samples.now result }
 {
     layer_shows(Smoothing::new(below), samples)
 }
@@ -65,7 +67,7 @@ pub fn settled_when_alike()
 // The functions below do the work of those above, each from a scale that was given no sample yet.
 
 fn hand_over<S: Scale>(scale: &mut S, samples: &[Sample])
-    ensures { Weighed shows takes scale.old samples.now scale.new }
+    ensures { Weighed S.shows S.takes scale.old samples.now scale.new }
 {
     for sample in samples {
         scale.sample(*sample);
@@ -90,7 +92,7 @@ fn converter_shows(mut converter: Converter, samples: &[Sample]) -> Reading
 
 fn layer_shows<S: Scale + Drop>(mut layer: Smoothing<S>, samples: &[Sample]) -> Reading
     requires { last_weights layer.window ≡ [] }
-    ensures { (b : S) → layer.below ≡ b → Smoothed shows takes b samples.now result }
+    ensures { (b : S) → layer.below ≡ b → Smoothed S.shows S.takes b samples.now result }
 {
     weigh(&mut layer, samples);
     layer.read()

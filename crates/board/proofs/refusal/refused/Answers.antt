@@ -3,4 +3,4 @@ use Rattle.board.proofs.refusal.refused.Goals as goal
 
 pub returns : goal.returns
 unfolding refuses
-returns c = record { value = λ s. c.refused-at.ensures.value }
+returns c = record { value = λ s. c.refused_at.ensures.value }

@@ -5,6 +5,6 @@ use Rattle.board.proofs.relay.relays_of.Goals as goal
 
 pub returns : goal.returns
 returns c = record {
-  each = c.bits-of.ensures.each;
-  whole = ap byte_of c.bits-of.ensures.each ∙ byte_bits c.args.byte (omega arith);
+  each = c.bits_of.ensures.each;
+  whole = ap byte_of c.bits_of.ensures.each ∙ byte_bits c.args.byte (omega arith);
 }

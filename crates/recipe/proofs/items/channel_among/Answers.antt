@@ -10,12 +10,12 @@ step : (k : ℕ) (ps : List ℕ) (i : ℕ) (x : ℤ) (b : Bool) → i < length p
 step k ps i x b h t =
     at_drop_more (λ m. channel_from k m x) ps i 0 h ∙ ap (λ (v : Bool). cond v k (channel_from (k + 1) (drop (i + 1) ps) x)) (sym t)
 
-pub returns-then-is-below : goal.returns-then-is-below
-returns-then-is-below c =
+pub returns-then-is_below : goal.returns-then-is_below
+returns-then-is_below c =
     let ps = c.args.limits.now in
     let x = c.args.x in
     let fits : SFits w32 x = c.ranges.x in
-    let test : true ≡ lt_z x (pos (get_or ps c.loop-p.p-index 0)) = simp to_z-of_z at c.if-is-below.ensures in
+    let test : true ≡ lt_z x (pos (get_or ps c.loop-p.p-index 0)) = simp to_z-of_z at c.if-is_below.ensures in
     let same : channel_from c.loop-p.channel (drop c.loop-p.p-index ps) x ≡ channel_from 1 ps x = simp to_z-of_z at c.loop-p.invariant.1 in
     sym (step c.loop-p.channel ps c.loop-p.p-index x true (omega arith) test) ∙ same
 
@@ -24,7 +24,7 @@ loop-p-preserved c =
     let ps = c.args.limits.now in
     let x = c.args.x in
     let fits : SFits w32 x = c.ranges.x in
-    let test : false ≡ lt_z x (pos (get_or ps c.loop-p.p-index 0)) = simp to_z-of_z at c.if-is-below.ensures in
+    let test : false ≡ lt_z x (pos (get_or ps c.loop-p.p-index 0)) = simp to_z-of_z at c.if-is_below.ensures in
     let same : channel_from c.loop-p.channel (drop c.loop-p.p-index ps) x ≡ channel_from 1 ps x = simp to_z-of_z at c.loop-p.invariant.1 in
     (omega arith, simp to_z-of_z (sym (step c.loop-p.channel ps c.loop-p.p-index x false (omega arith) test) ∙ same))
 

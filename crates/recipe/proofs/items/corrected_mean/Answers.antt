@@ -33,8 +33,8 @@ corrected-requires c =
     let b = product_small (nat_abs c.args.sum) c.args.number c.args.correction s.small c.requires.few in
     search rules
 
-pub overflow-cast-result : goal.overflow-cast-result
-overflow-cast-result c =
+pub overflow_cast-result : goal.overflow_cast-result
+overflow_cast-result c =
     let s = sums c.args.sum c.args.number c.requires.can in
     let size : nat_abs c.corrected.result ≡ nat_abs c.args.sum * (parts + c.args.correction) = search rules in
     let b = mean_small c.corrected.result (nat_abs c.args.sum) c.args.number c.args.correction size s.small s.some c.requires.few in
@@ -42,5 +42,5 @@ overflow-cast-result c =
 
 pub returns : goal.returns
 returns c =
-    let fits = overflow-cast-result c in
+    let fits = overflow_cast-result c in
     search rules

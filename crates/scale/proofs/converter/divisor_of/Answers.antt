@@ -4,8 +4,8 @@ use Rattle.scale.specs.Conversion.{widest_span}
 use Rattle.scale.proofs.Ranges.{ranges}
 use Rattle.scale.proofs.converter.divisor_of.Goals as goal
 
-pub overflow-mul-unsigned-abs : goal.overflow-mul-unsigned-abs
-overflow-mul-unsigned-abs c =
+pub overflow_mul-unsigned_abs : goal.overflow_mul-unsigned_abs
+overflow_mul-unsigned_abs c =
     let s = c.args.s.now in
     let g = ranges s c.requires in
     let high = mul-le (nat_abs s.span) (nat_abs s.division) widest_span 50 g.span g.division in

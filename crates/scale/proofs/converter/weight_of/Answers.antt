@@ -13,14 +13,14 @@ product_small s h a l = mul-le (nat_abs a) (nat_abs s.capacity) (2 * last_code) 
 pub times-product-requires : goal.times-product-requires
 times-product-requires c =
     let s = c.args.s.now in
-    let b = product_small s c.requires c.above-zero.result c.above-zero.ensures.size in
+    let b = product_small s c.requires c.above_zero.result c.above_zero.ensures.size in
     search rules
 
 pub times-requires : goal.times-requires
 times-requires c =
     let s = c.args.s.now in
     let g = ranges s c.requires in
-    let b = product_small s c.requires c.above-zero.result c.above-zero.ensures.size in
+    let b = product_small s c.requires c.above_zero.result c.above_zero.ensures.size in
     let r : nat_abs c.rounded-divisions.result ≤ 2 * last_code * most = search rules in
     let d = mul-le (nat_abs c.rounded-divisions.result) (nat_abs s.division) (2 * last_code * most) 50 r g.division in
     search rules

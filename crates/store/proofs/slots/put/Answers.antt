@@ -10,16 +10,16 @@ pub returns : goal.returns
 returns g c =
     let xs = c.args.slots.now in
     let x = g.T.Record.made c.args.weight c.args.tick in
-    let ys = set xs c.goes-at-at.result c.of.result in
+    let ys = set xs c.goes_at-at.result c.of.result in
     let same : c.of.result ≡ x =
     c.of.ensures ∙ ap (λ w. g.T.Record.made w c.args.tick) (to_z-of_z w32 c.args.weight c.ranges.weight) in
     let records : oldest_first ys c.after.result ≡ added (length xs) (oldest_first xs c.args.mark) x =
-    oldest_first-after xs c.args.mark c.after.result c.goes-at-at.result x c.of.result (omega arith) c.goes-at-at.ensures c.after.ensures same in
+    oldest_first-after xs c.args.mark c.after.result c.goes_at-at.result x c.of.result (omega arith) c.goes_at-at.ensures c.after.ensures same in
     record {
       records = records;
       weights = seen g.T.Record.weighs xs ys c.args.mark c.after.result x c.args.weight (g.met.T.Record.faithful c.args.weight c.args.tick) records;
-      memory = cc (c.goes-at-at.ensures, same);
-      places = length-set xs c.goes-at-at.result c.of.result;
+      memory = cc (c.goes_at-at.ensures, same);
+      places = length-set xs c.goes_at-at.result c.of.result;
     }
 
 pub returns-then-places-eq0 : goal.returns-then-places-eq0

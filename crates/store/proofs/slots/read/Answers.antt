@@ -18,8 +18,8 @@ returns g c =
     let i = c.args.i in
     let n = length-oldest_first xs c.args.mark in
     let e = c.count.ensures in
-    let value = c.lies-at-at.ensures.value in
+    let value = c.lies_at-at.ensures.value in
     let l : i < length (oldest_first xs c.args.mark) = omega arith in
-    let there : get_or (oldest_first xs c.args.mark) i x ≡ get_or xs c.lies-at-at.result x =
+    let there : get_or (oldest_first xs c.args.mark) i x ≡ get_or xs c.lies_at-at.result x =
     get_or-oldest_first xs c.args.mark i x (omega arith) ∙ ap (λ k. get_or xs k x) (sym value) in
     ap Some (c.index-slots-at.is ∙ sym there) ∙ sym (slice_get-get_or (oldest_first xs c.args.mark) i x l)

@@ -5,17 +5,17 @@ use Rattle.weight.proofs.Laws.{rounding-le_self, rounding-Nearest}
 use Rattle.weight.specs.Rounding.{rounding, Nearest}
 use Rattle.weight.proofs.rounding.nearest_by.Goals as goal
 
-pub overflow-add-result : goal.overflow-add-result
+pub overflow_add-result : goal.overflow_add-result
 unfolding rounding
-overflow-add-result c = let b = rounding-le_self c.args.p c.args.q c.requires in search (arith, ints)
+overflow_add-result c = let b = rounding-le_self c.args.p c.args.q c.requires in search (arith, ints)
 
 pub returns : goal.returns
 unfolding rounding
 returns c =
     let p = c.args.p in
     let q = c.args.q in
-    let f = overflow-add-result c in
-    let e : to_z w64 (of_z w64 (to_z w64 (of_z w64 c.quotient.result) +ℤ to_z w64 (of_z w64 c.correction-of.result))) ≡ rounding p q =
+    let f = overflow_add-result c in
+    let e : to_z w64 (of_z w64 (to_z w64 (of_z w64 c.quotient.result) +ℤ to_z w64 (of_z w64 c.correction_of.result))) ≡ rounding p q =
     grind (arith, to_z-of_z) in
     let b = rounding-le_self p q c.requires in
     let P : ℤ → Type 0 = λ r. Nearest p q r in

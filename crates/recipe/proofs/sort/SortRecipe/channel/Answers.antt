@@ -9,7 +9,7 @@ returns c =
     let r = c.args.self.now in
     let v = sort_values r in
     let x = c.args.x in
-    let value : c.channel-answer.result ≡ channel_answer v x = search rules in
+    let value : c.channel_answer.result ≡ channel_answer v x = search rules in
     record {
       value = value;
       found = subst (λ (o : Option ℕ). FoundChannel v x o) (sym value) (found_channel v x r.kept);

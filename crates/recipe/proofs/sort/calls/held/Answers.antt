@@ -6,7 +6,7 @@ use Rattle.recipe.proofs.sort.calls.held.Goals as goal
 pub returns : goal.returns
 returns c =
     let xs = c.args.limits.now in
-    let e = c.copy-from-slice.ensures.after in
+    let e = c.copy_from_slice.ensures.after in
     record {
       whole = simp e (ap (λ zs. xs ++ zs) (drop-replicate (length xs) most_limits 0));
       front = simp e (take_at xs _ (length xs) refl);

@@ -1,10 +1,10 @@
-use Rattle.std.proofs.Common.{◌≡◌, ℕ, ◌+◌, ◌*◌, ◌<◌, ◌≤◌, true, ℤ, pos, ◌*ℤ◌, nat_abs, arith, rules}
+use Rattle.std.proofs.Common.{◌≡◌, ℕ, ◌+◌, ◌*◌, ◌≤◌, true, ℤ, nat_abs, arith, rules}
 use Rattle.std.proofs.lemmas.Nat.{mul-le}
 use Rattle.std.proofs.lemmas.Bool.Decides.{nat_tests}
 use Rattle.weight.specs.Range.{most}
 use Rattle.weight.specs.Rounding.{rounding}
 use Rattle.weight.proofs.Laws.{rounding-le}
-use Rattle.recipe.specs.Items.{can_sum, most_readings, item_weight, parts}
+use Rattle.recipe.specs.Items.{can_sum, most_readings, parts}
 use Rattle.recipe.specs.Sorts.{most_correction}
 use Rattle.recipe.proofs.items.corrected_mean.Goals as goal
 

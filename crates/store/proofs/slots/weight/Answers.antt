@@ -1,4 +1,4 @@
-use Rattle.std.proofs.Common.{◌≡◌, Some, sym, ap, ◌∙◌, w32, rules}
+use Rattle.std.proofs.Common.{Some, sym, ap, ◌∙◌, w32, rules}
 use Rattle.std.proofs.iter.runs.Lists.{slice_get-map}
 use Rattle.std.proofs.lemmas.Int.{to_z-of_z}
 use Rattle.std.specs.Option.{option_map}

@@ -2,5 +2,5 @@ pub mod Conversion
 pub mod Figures
 pub mod Windows
 pub mod Kinds
-pub mod WindowsLemmas
 pub mod Means
+pub mod Made

@@ -1,12 +1,10 @@
 // The analogue converter: it sends codes, which its settings turn into weights.
-ghost use Rattle.std.specs.Prelude.{◌≡◌, ◌*◌, ◌^◌, ◌<◌, ◌≤◌, true, false, [], ℤ, ◌-ℤ◌, ◌*ℤ◌, Ok, Err, unsigned_abs};
+ghost use Rattle.std.specs.Prelude.{◌≡◌, ◌*◌, ◌^◌, ◌<◌, ◌≤◌, true, ◌-ℤ◌, ◌*ℤ◌, unsigned_abs};
 ghost use Rattle.std.specs.NonZero.{non_zero_u32_get};
 ghost use Rattle.weight.specs.Range.{InRange, cut};
-ghost use Rattle.weight.specs.declared.fault.Fault.TheVariants.{OutOfRange};
-ghost use Rattle.scale.specs.Conversion.{between, codes_in_range, is_division, settings_in_range, last_code, weights_in_range, divisor, converted};
-ghost use Rattle.scale.specs.Kinds.{ConverterTakes, converter_shows, unsampled};
+ghost use Rattle.scale.specs.Conversion.{codes_in_range, is_division, settings_in_range, last_code, weights_in_range, divisor, converted};
+ghost use Rattle.scale.specs.Kinds.{ConverterTakes, converter_shows};
 ghost use Rattle.scale.specs.Windows.{last_weights};
-ghost use Rattle.scale.specs.WindowsLemmas.{window_ranged};
 
 use crate::kind::Scale;
 use crate::reading::Sample;
@@ -33,9 +31,11 @@ pub struct Converter {
 }
 
 impl Converter {
+    ghost use Rattle.scale.specs.Made.{ConverterMade};
+
     // A converter of these numbers, from which no sample has come.
     pub fn new(settings: Settings) -> Result<Self, Fault>
-        ensures { elim result [ Ok c ↦ (settings_in_range settings ≡ true) × (c.settings ≡ settings) × (last_weights c.window ≡ []) × (converter_shows c.settings (last_weights c.window) ≡ unsampled) | Err f ↦ (settings_in_range settings ≡ false) × (f ≡ OutOfRange) ] }
+        ensures { ConverterMade settings result }
     {
         if !in_range(&settings) {
             return Err(Fault::OutOfRange);
@@ -45,6 +45,24 @@ impl Converter {
             window: Window::new(),
         })
     }
+
+    // The gross weight of a code.
+    fn weight_of(&self, code: i32) -> i32
+        ensures value { result ≡ converted self.now.settings code }
+        ensures range { InRange result }
+    {
+        let product = times(above_zero(code, self.settings.zero), self.settings.capacity);
+        let divisions = rounded(product, self.divisor());
+        cut_to_range(times(divisions, self.settings.division))
+    }
+
+    // What the product of code and capacity is divided by: span times division.
+    fn divisor(&self) -> NonZeroU32
+        ensures { non_zero_u32_get result ≡ divisor self.now.settings }
+    {
+        let Settings { span, division, .. } = self.settings;
+        NonZeroU32::new(span.unsigned_abs() * division.unsigned_abs()).unwrap()
+    }
 }
 
 impl Scale for Converter {
@@ -52,18 +70,18 @@ impl Scale for Converter {
 
     ghost takes = { λ c x d. ConverterTakes c.settings (last_weights c.window) x d.settings (last_weights d.window) };
 
-    ghost ranged = { λ c. window_ranged c.window 0 };
+    ghost ranged = { λ c. c.window.ranged 0 };
 
     fn gross(&self) -> i32 {
         self.window.latest()
     }
 
     fn stable(&self) -> bool {
-        self.window.len() == SETTLED_OVER && self.window.spread() <= self.settings.width as i64
+        self.window.len() == SETTLED_OVER && self.window.spread() <= i64::from(self.settings.width)
     }
 
     fn sample(&mut self, sample: Sample) {
-        let w = weight_of(&self.settings, sample.value);
+        let w = self.weight_of(sample.value);
         self.window.push(w);
     }
 }
@@ -78,19 +96,13 @@ fn in_range(s: &Settings) -> bool
 fn codes_in_range(s: &Settings) -> bool
     ensures { result ≡ codes_in_range s.now }
 {
-    is_between(s.zero, -LAST_CODE, LAST_CODE) && is_between(s.span, 1, WIDEST_SPAN)
+    (-LAST_CODE..=LAST_CODE).contains(&s.zero) && (1..=WIDEST_SPAN).contains(&s.span)
 }
 
 fn weights_in_range(s: &Settings) -> bool
     ensures { result ≡ weights_in_range s.now }
 {
-    is_between(s.capacity, 1, MOST) && is_division(s.division) && is_between(s.width, 0, MOST)
-}
-
-fn is_between(n: i32, low: i32, high: i32) -> bool
-    ensures { result ≡ between n low high }
-{
-    low <= n && n <= high
+    (1..=MOST).contains(&s.capacity) && is_division(s.division) && (0..=MOST).contains(&s.width)
 }
 
 fn is_division(e: i32) -> bool
@@ -113,7 +125,7 @@ fn above_zero(code: i32, zero: i32) -> i64
     ensures value { result ≡ cut last_code code -ℤ zero }
     ensures size { unsigned_abs result ≤ 2 * last_code }
 {
-    within_ends(code) as i64 - zero as i64
+    i64::from(within_ends(code)) - i64::from(zero)
 }
 
 // a × k, where that is small enough.
@@ -122,24 +134,5 @@ fn times(a: i64, k: i32) -> i64
     ensures value { result ≡ a *ℤ k }
     ensures size { unsigned_abs result ≡ unsigned_abs a * unsigned_abs k }
 {
-    a * k as i64
-}
-
-// What the product of code and capacity is divided by: span times division.
-fn divisor_of(s: &Settings) -> NonZeroU32
-    requires { settings_in_range s.now ≡ true }
-    ensures { non_zero_u32_get result ≡ divisor s.now }
-{
-    NonZeroU32::new(s.span.unsigned_abs() * s.division.unsigned_abs()).unwrap()
-}
-
-// The gross weight of a code.
-fn weight_of(s: &Settings, code: i32) -> i32
-    requires { settings_in_range s.now ≡ true }
-    ensures value { result ≡ converted s.now code }
-    ensures range { InRange result }
-{
-    let product = times(above_zero(code, s.zero), s.capacity);
-    let divisions = rounded(product, divisor_of(s));
-    cut_to_range(times(divisions, s.division))
+    a * i64::from(k)
 }

@@ -44,7 +44,7 @@ impl Scale for Head {
 
     fn sample(&mut self, sample: Sample) {
         self.reading = Reading {
-            gross: cut_to_range(sample.value as i64),
+            gross: cut_to_range(i64::from(sample.value)),
             stable: sample.steady,
         };
     }

@@ -4,7 +4,6 @@ ghost use Rattle.weight.specs.Range.{InRange};
 ghost use Rattle.scale.specs.Kinds.{SmoothingTakes, mean, smoothing_shows, unsampled};
 ghost use Rattle.scale.specs.Windows.{last_weights};
 ghost use Rattle.scale.specs.Means.{mean_ranged};
-ghost use Rattle.scale.specs.WindowsLemmas.{window_ranged};
 
 use crate::kind::Scale;
 use crate::reading::Sample;
@@ -40,7 +39,7 @@ impl<S: Scale> Scale for Smoothing<S> {
 
     ghost takes = { λ s x t. S.Scale.takes s.below x t.below × SmoothingTakes (last_weights s.window) (S.Scale.shows t.below) (last_weights t.window) };
 
-    ghost ranged = { λ s. mean_ranged (last_weights s.window) (window_ranged s.window) };
+    ghost ranged = { λ s. mean_ranged (last_weights s.window) s.window.ranged };
 
     fn gross(&self) -> i32 {
         mean_of(&self.window)

@@ -1,15 +1,88 @@
 // The last K weights of a scale.
-ghost use Rattle.std.specs.Prelude.{◌≡◌, ℕ, ◌≤◌, length, pos, slice_index_or};
+ghost use Rattle.std.specs.Prelude.{ℕ, pos, slice_index_or};
 ghost use Rattle.weight.specs.Range.{InRange};
 
-mod calls;
+use arrayvec::ArrayVec;
 
 // The last K weights, newest first, or as many as have come.
 #[derive(Drop)]
 pub(crate) struct Window<const K: usize> {
-    count: usize,
-    weights: [i32; K],
-    ghost few: { count ≤ K },
-    ghost sized: { length weights ≡ K },
-    ghost ranged: { (k : ℕ) → InRange (slice_index_or weights k (pos 0)) },
+    weights: ArrayVec<i32, K>,
+    ghost ranged: { (k : ℕ) → InRange (slice_index_or weights.items k (pos 0)) },
+}
+
+impl<const K: usize> Window<K> {
+    ghost use Rattle.std.specs.Prelude.{◌≡◌, ◌*◌, ◌≤◌, [], length, pos, slice_index_or, unsigned_abs};
+    ghost use Rattle.weight.specs.Range.{InRange, most};
+    ghost use Rattle.scale.specs.Windows.{last_weights};
+    ghost use Rattle.scale.specs.Kinds.{newest};
+    ghost use Rattle.scale.specs.Figures.{total, highest, lowest, spread};
+
+    // A window to which no weight has come.
+    pub(crate) fn new() -> Self
+        ensures { last_weights result ≡ [] }
+    {
+        Window {
+            weights: ArrayVec::new(),
+        }
+    }
+
+    // Puts a weight in, and drops the oldest beyond K.
+    pub(crate) fn push(&mut self, w: i32)
+        requires { InRange w }
+        ensures { last_weights self.new ≡ newest K w (last_weights self.old) }
+    {
+        self.weights.truncate(K.saturating_sub(1));
+        let _ = self.weights.try_insert(0, w);
+    }
+
+    // How many weights are kept.
+    pub(crate) fn len(&self) -> usize
+        ensures value { result ≡ length (last_weights self.now) }
+        ensures few { result ≤ K }
+    {
+        self.weights.len()
+    }
+
+    // The newest weight, or 0 where none has come.
+    pub(crate) fn latest(&self) -> i32
+        ensures value { result ≡ slice_index_or (last_weights self.now) 0 (pos 0) }
+        ensures range { InRange result }
+    {
+        self.weights.first().copied().unwrap_or(0)
+    }
+
+    // The sum of the weights; K is small enough for it.
+    pub(crate) fn total(&self) -> i64
+        requires { K ≤ 1000 }
+        ensures value { result ≡ total (last_weights self.now) }
+        ensures size { unsigned_abs result ≤ most * length (last_weights self.now) }
+    {
+        let mut sum: i64 = 0;
+        for w in self.weights.as_slice() {
+            sum += i64::from(*w);
+        }
+        sum
+    }
+
+    // The greatest of the weights, or 0 where there is none.
+    fn highest(&self) -> i32
+        ensures value { result ≡ highest (last_weights self.now) }
+    {
+        self.weights.iter().copied().fold(self.latest(), i32::max)
+    }
+
+    // The least of the weights, or 0 where there is none.
+    fn lowest(&self) -> i32
+        ensures value { result ≡ lowest (last_weights self.now) }
+    {
+        self.weights.iter().copied().fold(self.latest(), i32::min)
+    }
+
+    // How far the weights lie apart.
+    pub(crate) fn spread(&self) -> i64
+        ensures { result ≡ spread (last_weights self.now) }
+    {
+        i64::from(self.highest()) - i64::from(self.lowest())
+    }
 }

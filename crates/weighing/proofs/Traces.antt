@@ -1,12 +1,13 @@
 -- The traces of the kinds of scale.
 use Rattle.std.proofs.Common.{◌≡◌, ℕ, suc, ◌+◌, ◌<◌, List, [], ◌∷◌, map, reverse, length, get_or, take, ℤ, refl, ap, ◌∙◌, subst, arith}
 use Rattle.std.proofs.lemmas.List.{take_more, take-take, reverse-append}
+use Rattle.scale.specs.declared.head.Head.{Head}
 use Rattle.scale.specs.declared.reading.Reading.{Reading}
 use Rattle.scale.specs.declared.reading.Sample.{Sample}
 use Rattle.scale.specs.declared.settings.Settings.{Settings}
 use Rattle.scale.specs.Conversion.{converted}
 use Rattle.scale.specs.Kinds.{unsampled, newest, head_shows, settled_over, converter_shows, ConverterTakes, mean_over, smoothing_shows, SmoothingTakes}
-use Rattle.weighing.specs.Traces.{Trace, start, next, latest, head_trace, weights_of, converter_trace, smoothed_trace}
+use Rattle.weighing.specs.Traces.{Trace, start, next, Shown, latest, head_trace, weights_of, converter_trace, smoothed_trace}
 
 -- one sample more, read newest first
 pub reverse_more : {X : Type 0} (xs : List X) (i : ℕ) (d : X) → i < length xs → reverse (take (i + 1) xs) ≡ get_or xs i d ∷ reverse (take i xs)
@@ -100,3 +101,10 @@ pub layer_trace : {S L : Type 0} (shows : S → Reading) (takes : S → Sample �
     → Layered shows takes s xs qs (below t) (window t)
 layer_trace shows takes below window from s is none {xs} {qs} {t} c =
     subst (λ b. Layered shows takes b xs qs (below t) (window t)) is (layer_from shows takes below window from none c)
+
+-- a new head shows the latest of what heads show
+pub head_shown : (h : Head) (xs : List Sample) (r : Reading) → h.reading ≡ unsampled
+    → Shown (λ (v : Head). v.reading) (λ (v : Head) (x : Sample) (w : Head). w.reading ≡ head_shows x) h xs r → r ≡ latest (head_trace (reverse xs))
+head_shown h xs r none p =
+    let k = p.trace in
+    p.last ∙ shows_latest _ _ _ none k ∙ ap latest (head_trace_lem _ _ _ (λ s x t h. h) k)

@@ -17,6 +17,13 @@ pub data Trace {S : Type 0} (shows : S → Reading) (takes : S → Sample → S 
 abbrev pub Weighed : {S : Type 0} → (S → Reading) → (S → Sample → S → Type 0) → S → List Sample → S → Type 0
 Weighed shows takes from xs to = (rs : List Reading) × Trace shows takes from (reverse xs) rs to
 
+-- what a scale shows after samples, oldest first
+pub record Shown {S : Type 0} (shows : S → Reading) (takes : S → Sample → S → Type 0) (from : S) (xs : List Sample) (r : Reading) : Type 0 where
+  pub readings : List Reading
+  pub left : S
+  pub trace : Trace shows takes from (reverse xs) readings left
+  pub last : r ≡ shows left
+
 -- what is shown after the last of the samples
 abbrev pub latest : List Reading → Reading
 latest [] = unsampled
@@ -41,8 +48,11 @@ smoothed_trace [] = []
 smoothed_trace (r ∷ rs) = smoothing_shows (take mean_over (map (λ q. q.gross) (r ∷ rs))) r ∷ smoothed_trace rs
 
 -- what a layer shows after samples, oldest first: whatever the scale below showed of them, smoothed
-abbrev pub Smoothed : {S : Type 0} → (S → Reading) → (S → Sample → S → Type 0) → S → List Sample → Reading → Type 0
-Smoothed {S} shows takes below xs r = (rs : List Reading) × ((t : S) × (Trace shows takes below (reverse xs) rs t × (r ≡ latest (smoothed_trace rs))))
+pub record Smoothed {S : Type 0} (shows : S → Reading) (takes : S → Sample → S → Type 0) (below : S) (xs : List Sample) (r : Reading) : Type 0 where
+  pub readings : List Reading
+  pub left : S
+  pub trace : Trace shows takes below (reverse xs) readings left
+  pub mean : r ≡ latest (smoothed_trace readings)
 
 -- where a new converter is needed: the readings that it leads to, or the refusal of its settings
 abbrev pub converter_answer : Settings → List Reading → Result Reading Fault

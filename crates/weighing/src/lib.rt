@@ -4,7 +4,7 @@
 ghost use Rattle.std.specs.Prelude.{◌≡◌, [], reverse};
 ghost use Rattle.scale.specs.Windows.{last_weights};
 ghost use Rattle.scale.specs.Kinds.{unsampled};
-ghost use Rattle.weighing.specs.Traces.{Weighed, Smoothed, converter_answer, latest, head_trace, converter_trace, smoothed_trace};
+ghost use Rattle.weighing.specs.Traces.{Weighed, Shown, Smoothed, converter_answer, latest, head_trace, converter_trace, smoothed_trace};
 ghost use Rattle.weighing.specs.Settling.{SettledWhenAlike};
 
 use scale::converter::Converter;
@@ -22,11 +22,20 @@ pub fn weigh<S: Scale>(scale: &mut S, samples: &[Sample])
     hand_over(scale, samples);
 }
 
+// What any scale shows after these samples.
+pub fn weigh_by<S: Scale + Drop>(mut scale: S, samples: &[Sample]) -> Reading
+    ensures { Shown S.shows S.takes scale samples.now result }
+{
+    weigh(&mut scale, samples);
+    scale.read()
+}
+
 // What a new head shows after these samples.
+#[tactic(auto, using(crate::proofs::Traces::head_shown))]
 pub fn weigh_by_head(samples: &[Sample]) -> Reading
     ensures { result ≡ latest (head_trace (reverse samples.now)) }
 {
-    head_shows(Head::new(), samples)
+    weigh_by(Head::new(), samples)
 }
 
 // What a new converter of these numbers shows after these samples.
@@ -64,7 +73,8 @@ pub fn settled_when_alike()
     ensures { SettledWhenAlike }
 {}
 
-// The functions below do the work of those above, each from a scale that was given no sample yet.
+// The functions below do the work of those above whose proofs have files, each from a scale that was given no sample
+// yet. They are instances of the generic calls, and say what these come to.
 
 fn hand_over<S: Scale>(scale: &mut S, samples: &[Sample])
     ensures { Weighed S.shows S.takes scale.old samples.now scale.new }
@@ -74,28 +84,18 @@ fn hand_over<S: Scale>(scale: &mut S, samples: &[Sample])
     }
 }
 
-fn head_shows(mut head: Head, samples: &[Sample]) -> Reading
-    requires { head.reading ≡ unsampled }
-    ensures { result ≡ latest (head_trace (reverse samples.now)) }
-{
-    weigh(&mut head, samples);
-    head.read()
-}
-
-fn converter_shows(mut converter: Converter, samples: &[Sample]) -> Reading
+fn converter_shows(converter: Converter, samples: &[Sample]) -> Reading
     requires { last_weights converter.window ≡ [] }
     ensures { result ≡ latest (converter_trace converter.settings (reverse samples.now)) }
 {
-    weigh(&mut converter, samples);
-    converter.read()
+    weigh_by(converter, samples)
 }
 
-fn layer_shows<S: Scale + Drop>(mut layer: Smoothing<S>, samples: &[Sample]) -> Reading
+fn layer_shows<S: Scale + Drop>(layer: Smoothing<S>, samples: &[Sample]) -> Reading
     requires { last_weights layer.window ≡ [] }
     ensures { (b : S) → layer.below ≡ b → Smoothed S.shows S.takes b samples.now result }
 {
-    weigh(&mut layer, samples);
-    layer.read()
+    weigh_by(layer, samples)
 }
 
 fn smoothed_converter_shows(converter: Converter, samples: &[Sample]) -> Reading

@@ -1,6 +1,9 @@
 // Every refusal of the controller has a number of its own, which operators see and hosts are sent.
-ghost use Rattle.std.specs.Prelude.{◌≡◌};
-ghost use Rattle.weight.specs.Faults.{number_of};
+ghost use Rattle.std.specs.Prelude.{◌≡◌, Some};
+ghost use Rattle.weight.specs.Faults.{number_of, name_of, text_of};
+
+use std::error::Error;
+use std::fmt;
 
 #[derive(Clone, Copy, PartialEq, Eq, Debug)]
 pub enum Fault {
@@ -44,4 +47,39 @@ impl Fault {
     {
         *self as u8
     }
+
+    fn name(&self) -> &'static str
+        ensures { result.now ≡ name_of self.now }
+    {
+        match self {
+            Fault::OutOfRange => "OutOfRange",
+            Fault::Inconsistent => "Inconsistent",
+            Fault::NotAtRest => "NotAtRest",
+            Fault::NoRecipe => "NoRecipe",
+            Fault::BadAddress => "BadAddress",
+            Fault::TotalsFull => "TotalsFull",
+            Fault::AtRest => "AtRest",
+            Fault::DriveRefused => "DriveRefused",
+            Fault::NoPlaces => "NoPlaces",
+            Fault::FrameLength => "FrameLength",
+            Fault::FrameEnds => "FrameEnds",
+            Fault::FrameCheck => "FrameCheck",
+            Fault::OtherAddress => "OtherAddress",
+            Fault::BadCommand => "BadCommand",
+            Fault::ReplyRoom => "ReplyRoom",
+        }
+    }
 }
+
+// The number and the name, as on "fault 8: DriveRefused".
+impl fmt::Display for Fault {
+    ghost output = { λ f. Some (text_of f) };
+
+    fn fmt<W: fmt::Write>(&self, f: &mut fmt::Formatter<W>) -> fmt::Result {
+        let number = self.number();
+        let name = self.name();
+        write!(f, "fault {number}: {name}")
+    }
+}
+
+impl Error for Fault {}

@@ -10,5 +10,5 @@ pub fn cut_to_range(n: i64) -> i32
     ensures value { result ≡ cut most n }
     ensures range { InRange result }
 {
-    n.clamp(-(MOST as i64), MOST as i64) as i32
+    n.clamp(-i64::from(MOST), i64::from(MOST)) as i32
 }

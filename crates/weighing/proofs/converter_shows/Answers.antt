@@ -9,7 +9,7 @@ use Rattle.weighing.proofs.converter_shows.Goals as goal
 pub returns : goal.returns
 returns c =
     let n = c.args.converter in
-    let k = c.weigh.ensures.1 in
+    let p = c.weigh_by.ensures in
     let none = ap (λ ws. converter_shows n.settings ws) c.requires in
-    let d = converter_trace_lem (λ (v : Converter). v.settings) (λ (v : Converter). last_weights v.window) n c.requires k in
-    c.read.ensures ∙ shows_latest _ _ n none k ∙ ap latest d.shown
+    let d = converter_trace_lem (λ (v : Converter). v.settings) (λ (v : Converter). last_weights v.window) n c.requires p.trace in
+    p.last ∙ shows_latest _ _ n none p.trace ∙ ap latest d.shown

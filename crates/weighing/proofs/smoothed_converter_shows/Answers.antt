@@ -7,7 +7,6 @@ use Rattle.weighing.proofs.smoothed_converter_shows.Goals as goal
 
 pub returns : goal.returns
 returns c =
-    let n = c.args.converter in
-    let k = c.weigh_smoothed.ensures.1.1 in
-    let d = converter_trace_lem (λ (v : Converter). v.settings) (λ (v : Converter). last_weights v.window) n c.requires k.0 in
-    k.1 ∙ ap (λ rs. latest (smoothed_trace rs)) d.shown
+    let p = c.weigh_smoothed.ensures in
+    let d = converter_trace_lem (λ (v : Converter). v.settings) (λ (v : Converter). last_weights v.window) c.args.converter c.requires p.trace in
+    p.mean ∙ ap (λ rs. latest (smoothed_trace rs)) d.shown

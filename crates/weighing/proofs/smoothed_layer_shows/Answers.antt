@@ -7,6 +7,6 @@ use Rattle.weighing.proofs.smoothed_layer_shows.Goals as goal
 pub returns : goal.returns
 returns c =
     let n = c.args.layer in
-    let k = c.weigh_smoothed.ensures.1.1 in
-    let d = layer_trace _ _ (λ l. l.below) (λ l. last_weights l.window) n n.below refl c.requires k.0 in
-    k.1 ∙ ap (λ rs. latest (smoothed_trace rs)) (d.shown ∙ ap smoothed_trace (head_trace_lem _ _ _ (λ s x t h. h) d.trace))
+    let p = c.weigh_smoothed.ensures in
+    let d = layer_trace _ _ (λ l. l.below) (λ l. last_weights l.window) n n.below refl c.requires p.trace in
+    p.mean ∙ ap (λ rs. latest (smoothed_trace rs)) (d.shown ∙ ap smoothed_trace (head_trace_lem _ _ _ (λ s x t h. h) d.trace))

@@ -1,12 +1,11 @@
 // A test load of 2,500 is put on the scale: through a converter, and smoothed.
-use anyhow::anyhow;
+use anyhow::bail;
 use scale::converter::Converter;
 use scale::kind::Scale;
 use scale::reading::{Reading, Sample};
 use scale::settings::Settings;
 use scale::smoothing::Smoothing;
 use weighing::weigh_by_smoothed_converter;
-use weight::fault::Fault;
 
 // Unloaded the cell sends 1,000, and two codes more for each unit of weight.
 const STATION: Settings = Settings {
@@ -35,10 +34,8 @@ pub fn weigh_test_load(rt: &HostRuntime) -> anyhow::Result<()> {
         "Test load on a converter: zero {zero}, span {span}, capacity {capacity}, division {division}, width {width}"
     )?;
     refuse_bad_division(rt)?;
-    match Converter::new(STATION) {
-        Ok(converter) => show_each(rt, Smoothing::new(converter))?,
-        Err(fault) => print_refusal(rt, "the station's numbers", fault)?,
-    }
+    let converter = Converter::new(STATION)?;
+    show_each(rt, Smoothing::new(converter))?;
     replay(rt)
 }
 
@@ -48,27 +45,25 @@ fn refuse_bad_division(rt: &HostRuntime) -> anyhow::Result<()> {
         division: 3,
         ..STATION
     };
-    match Converter::new(numbers) {
-        Ok(_) => return Err(anyhow!("division 3 was accepted")),
-        Err(fault) => print_refusal(rt, "division 3", fault)?,
-    }
+    let Err(fault) = Converter::new(numbers) else {
+        bail!("division 3 was accepted");
+    };
+    println!(rt; "  division 3 refused, {fault}")?;
     Ok(())
 }
 
-fn print_refusal(rt: &HostRuntime, label: &str, fault: Fault) -> anyhow::Result<()> {
-    let number = fault.number();
-    println!(rt; "  {label} refused, fault {number}: {fault:?}")?;
-    Ok(())
+fn sample_of(code: i32) -> Sample {
+    Sample {
+        value: code,
+        steady: false,
+    }
 }
 
 // Prints what the scale shows before the first sample, and after each.
 fn show_each<S: Scale + Drop>(rt: &HostRuntime, mut scale: S) -> anyhow::Result<()> {
     print_reading(rt, "before any sample", scale.read())?;
     for code in CODES {
-        scale.sample(Sample {
-            value: code,
-            steady: false,
-        });
+        scale.sample(sample_of(code));
         let label = format!(in rt.alloc(); "code {code}")?;
         print_reading(rt, label.as_str(), scale.read())?;
     }
@@ -88,15 +83,6 @@ fn print_reading(rt: &HostRuntime, label: &str, reading: Reading) -> anyhow::Res
 
 // The same samples once more, in one call whose contract says what must come out.
 fn replay(rt: &HostRuntime) -> anyhow::Result<()> {
-    let mut samples = Vec::new(rt.alloc());
-    for code in CODES {
-        samples.push(Sample {
-            value: code,
-            steady: false,
-        })?;
-    }
-    match weigh_by_smoothed_converter(STATION, samples.as_slice()) {
-        Ok(reading) => print_reading(rt, "replayed", reading),
-        Err(fault) => print_refusal(rt, "the station's numbers", fault),
-    }
+    let reading = weigh_by_smoothed_converter(STATION, &CODES.map(sample_of))?;
+    print_reading(rt, "replayed", reading)
 }

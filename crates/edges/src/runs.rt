@@ -1,6 +1,6 @@
 // Runs each value of the table, and prints what came out beside what is expected.
 use crate::calls::{driven_once, gross_of_code, smoothed_pair};
-use anyhow::anyhow;
+use anyhow::ensure;
 
 pub fn run_all(rt: &HostRuntime) -> anyhow::Result<()> {
     run_converter(rt)?;
@@ -10,10 +10,8 @@ pub fn run_all(rt: &HostRuntime) -> anyhow::Result<()> {
 
 fn run_converter(rt: &HostRuntime) -> anyhow::Result<()> {
     for (above, expected) in [(5, 5), (4, 0), (-5, -5)] {
-        match gross_of_code(1_000, 1_000 + above) {
-            Ok(actual) => compare(rt, "converter, codes above zero:", above, actual, expected)?,
-            Err(_) => return judge(false),
-        }
+        let actual = gross_of_code(1_000, 1_000 + above)?;
+        compare(rt, "converter, codes above zero:", above, actual, expected)?;
     }
     Ok(())
 }
@@ -23,6 +21,7 @@ fn run_smoothing(rt: &HostRuntime) -> anyhow::Result<()> {
     compare(rt, "smoothing, -1 and", -2, smoothed_pair(-1, -2), -2)
 }
 
+// A value that came out wrong ends the program with an error.
 fn compare(
     rt: &HostRuntime,
     label: &str,
@@ -31,7 +30,8 @@ fn compare(
     expected: i32,
 ) -> anyhow::Result<()> {
     println!(rt; "{label} {input} shows {actual}, expected {expected}")?;
-    judge(actual == expected)
+    ensure!(actual == expected, "an edge value came out wrong");
+    Ok(())
 }
 
 fn run_board(rt: &HostRuntime) -> anyhow::Result<()> {
@@ -45,18 +45,10 @@ fn run_board(rt: &HostRuntime) -> anyhow::Result<()> {
         println!(rt;
             "limit 2, {byte:02X}H {word}: {stands:02X}H stands, tripped {trips}; expected {standing:02X}H, {tripped}"
         )?;
-        judge(answer.is_err() == tripped && stands == standing && trips == tripped)?;
+        let right = answer.is_err() == tripped && stands == standing && trips == tripped;
+        ensure!(right, "an edge value came out wrong");
     }
     Ok(())
-}
-
-// A value that came out wrong ends the program with an error.
-fn judge(right: bool) -> anyhow::Result<()> {
-    if right {
-        Ok(())
-    } else {
-        Err(anyhow!("an edge value came out wrong"))
-    }
 }
 
 #[cfg(test)]

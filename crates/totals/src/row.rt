@@ -1,42 +1,57 @@
 // One class of the totals.
-ghost use Rattle.std.specs.Prelude.{◌≡◌, ◌+◌, ◌<◌, ◌≤◌};
-ghost use Rattle.totals.specs.Rows.{row_sum, raised, full_count, NotBelowZero, NotTooHeavy};
+ghost use Rattle.std.specs.Prelude.{◌≡◌, ◌+◌, ◌<◌, ◌≤◌, true};
+ghost use Rattle.totals.specs.Rows.{row_sum, raised, is_recordable, full_count};
+
+use std::marker::Model;
 
 // How many weights were recorded, and their sum.
-#[derive(Clone, Copy, PartialEq, Eq, Debug)]
+#[derive(Clone, Copy, PartialEq, Eq, Debug, Default)]
 pub struct Row {
     pub count: u32,
     pub weight: i64,
 }
 
-impl Row {
-    // Nothing is recorded.
-    pub(crate) const NONE: Row = Row {
-        count: 0,
-        weight: 0,
-    };
+// A row that comes from records alone: it weighs no less than 0, and no more than the largest weight for each of its
+// records, so no sum of such rows overflows. A type of its own, since callers may write down any row.
+#[derive(Clone, Copy, Default)]
+pub(crate) struct RecordedRow {
+    pub(crate) row: Row,
+}
 
+impl Model for RecordedRow {
+    ghost use Rattle.totals.specs.declared.row.Row.{Row};
+    ghost use Rattle.totals.specs.Rows.{NotBelowZero, NotTooHeavy};
+
+    ghost Value = { Row };
+
+    ghost view = { λ r. r.row };
+
+    ghost inverse = { λ r. record { row = r } };
+
+    ghost invariant = { λ r. (NotBelowZero r.row) × (NotTooHeavy r.row) };
+}
+
+impl RecordedRow {
     // Counts one weight more.
     pub(crate) fn raise(&mut self, weight: i32)
         requires room { self.old.count < full_count }
-        requires low { NotBelowZero self.old }
-        requires high { NotTooHeavy self.old }
+        requires recordable { is_recordable weight ≡ true }
         ensures { self.new ≡ raised self.old weight }
     {
-        self.count += 1;
-        self.weight += weight as i64;
+        self.row.count += 1;
+        self.row.weight += i64::from(weight);
     }
 
     // Both rows together.
-    pub(crate) fn join(self, other: Row) -> Row
-        requires few { self.count + other.count ≤ full_count }
-        requires low { (NotBelowZero self) × (NotBelowZero other) }
-        requires high { (NotTooHeavy self) × (NotTooHeavy other) }
+    pub(crate) fn join(self, other: RecordedRow) -> RecordedRow
+        requires { self.count + other.count ≤ full_count }
         ensures { result ≡ row_sum self other }
     {
-        Row {
-            count: self.count + other.count,
-            weight: self.weight + other.weight,
+        RecordedRow {
+            row: Row {
+                count: self.row.count + other.row.count,
+                weight: self.row.weight + other.row.weight,
+            },
         }
     }
 }

@@ -1,6 +1,6 @@
 use Rattle.std.proofs.Common.{◌≡◌, take}
-use Rattle.totals.specs.Rows.{overall_of, NotBelowZero, NotTooHeavy}
+use Rattle.totals.specs.Rows.{overall_of}
 use Rattle.totals.proofs.table.Totals.overall.Given as goal
 
 abbrev pub invariant-loop-row : goal.invariant-loop-row
-invariant-loop-row l = (l.sum ≡ overall_of (take l.row-index l.self.rows)) × NotBelowZero l.sum × NotTooHeavy l.sum
+invariant-loop-row l = l.sum ≡ overall_of (take l.row-index l.self.rows)

@@ -3,6 +3,7 @@ ghost use Rattle.std.specs.Prelude.{◌≡◌, ◌≤◌, length, IfSome};
 ghost use Rattle.totals.specs.Rows.{classes, full_count, no_rows, recorded, can_record, is_recordable, row_answer, overall_count, overall_of, is_full, NotBelowZero, NotTooHeavy};
 
 use crate::row::{RecordedRow, Row};
+use std::marker::Model;
 use weight::range::MOST;
 
 // A class stays a number: it is an index, told to hosts and operators as such, and a narrower type would ask more.
@@ -15,8 +16,20 @@ pub const FULL: u32 = 999_999;
 #[derive(Clone, Copy)]
 pub struct Totals {
     rows: [RecordedRow; CLASSES],
-    ghost sized: { length rows ≡ classes },
-    ghost few: { overall_count rows ≤ full_count },
+}
+
+impl Model for Totals {
+    ghost use Rattle.std.specs.Prelude.{◌≡◌, ◌≤◌, List, length};
+    ghost use Rattle.totals.specs.declared.row.Row.{Row};
+    ghost use Rattle.totals.specs.Rows.{classes, full_count, overall_count};
+
+    ghost Value = { List Row };
+
+    ghost view = { λ t. t.rows };
+
+    ghost inverse = { λ rows. record { rows = rows } };
+
+    ghost invariant = { λ t. (length t.rows ≡ classes) × (overall_count t.rows ≤ full_count) };
 }
 
 impl Totals {

@@ -4,4 +4,4 @@ use Rattle.totals.specs.declared.row.Row.{Row}
 use Rattle.totals.specs.declared.table.Totals.{Totals}
 
 abbrev pub rows_of : Totals → List Row
-rows_of t = t
+rows_of t = t.rows

@@ -15,21 +15,27 @@ pub const FULL: u32 = 999_999;
 // One row for each class.
 #[derive(Clone, Copy)]
 pub struct Totals {
-    rows: [RecordedRow; CLASSES],
+    rows: Rows,
+    ghost sized: { length rows ≡ classes },
+    ghost few: { overall_count rows ≤ full_count },
 }
 
-impl Model for Totals {
-    ghost use Rattle.std.specs.Prelude.{◌≡◌, ◌≤◌, List, length};
+// The rows themselves. A type of its own: today's toolchain takes no struct with ghost fields out of a `Result` where
+// an array of values with a model lies right in it.
+#[derive(Clone, Copy)]
+struct Rows {
+    by_class: [RecordedRow; CLASSES],
+}
+
+impl Model for Rows {
+    ghost use Rattle.std.specs.Prelude.{List};
     ghost use Rattle.totals.specs.declared.row.Row.{Row};
-    ghost use Rattle.totals.specs.Rows.{classes, full_count, overall_count};
 
     ghost Value = { List Row };
 
-    ghost view = { λ t. t.rows };
+    ghost view = { λ r. r.by_class };
 
-    ghost inverse = { λ rows. record { rows = rows } };
-
-    ghost invariant = { λ t. (length t.rows ≡ classes) × (overall_count t.rows ≤ full_count) };
+    ghost inverse = { λ rows. record { by_class = rows } };
 }
 
 impl Totals {
@@ -40,7 +46,9 @@ impl Totals {
         ensures { rows_of result ≡ no_rows }
     {
         Totals {
-            rows: [RecordedRow::default(); CLASSES],
+            rows: Rows {
+                by_class: [RecordedRow::default(); CLASSES],
+            },
         }
     }
 
@@ -57,7 +65,7 @@ impl Totals {
         ensures { rows_of self.new ≡ recorded (rows_of self.old) class weight }
     {
         if self.can_record(class, weight) {
-            let row = &mut self.rows[usize::from(class)];
+            let row = &mut self.rows.by_class[usize::from(class)];
             row.raise(weight);
         }
     }
@@ -69,6 +77,7 @@ impl Totals {
         ensures high { IfSome result NotTooHeavy }
     {
         self.rows
+            .by_class
             .get(usize::from(class))
             .map(|recorded| recorded.row)
     }
@@ -81,7 +90,7 @@ impl Totals {
         ensures high { NotTooHeavy result }
     {
         let mut sum = RecordedRow::default();
-        for row in &self.rows {
+        for row in &self.rows.by_class {
             sum = sum.join(*row);
         }
         sum.row

@@ -3,4 +3,4 @@ use Rattle.totals.specs.Rows.{overall_of}
 use Rattle.totals.proofs.table.Totals.overall.Given as goal
 
 abbrev pub invariant-loop-row : goal.invariant-loop-row
-invariant-loop-row l = l.sum ≡ overall_of (take l.row-index l.self)
+invariant-loop-row l = l.sum ≡ overall_of (take l.row-index l.self.rows)

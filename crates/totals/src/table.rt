@@ -20,8 +20,7 @@ pub struct Totals {
     ghost few: { overall_count rows ≤ full_count },
 }
 
-// The rows themselves. A type of its own: today's toolchain takes no struct with ghost fields out of a `Result` where
-// an array of values with a model lies right in it.
+// The rows, as a list. Not right in `Totals`: today's toolchain then proves no caller's `?` on a `Result` with totals.
 #[derive(Clone, Copy)]
 struct Rows {
     by_class: [RecordedRow; CLASSES],

@@ -1,6 +1,7 @@
 // One class of the totals.
-ghost use Rattle.std.specs.Prelude.{◌≡◌, ◌+◌, ◌<◌, ◌≤◌, true};
-ghost use Rattle.totals.specs.Rows.{row_sum, raised, is_recordable, full_count};
+ghost use Rattle.std.specs.Prelude.{◌≡◌, ◌+◌, ◌<◌, ◌≤◌, pos, ◌≤ℤ◌};
+ghost use Rattle.weight.specs.Range.{most};
+ghost use Rattle.totals.specs.Rows.{row_sum, raised, full_count};
 
 use std::marker::Model;
 
@@ -35,7 +36,8 @@ impl RecordedRow {
     // Counts one weight more.
     pub(crate) fn raise(&mut self, weight: i32)
         requires room { self.old.count < full_count }
-        requires recordable { is_recordable weight ≡ true }
+        requires low { pos 0 ≤ℤ weight }
+        requires high { weight ≤ℤ pos most }
         ensures { self.new ≡ raised self.old weight }
     {
         self.row.count += 1;

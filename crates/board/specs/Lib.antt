@@ -1,3 +1,4 @@
 pub mod Outputs
 pub mod Relays
+pub mod Bytes
 pub mod Kinds

@@ -2,6 +2,6 @@
 #![tactic(auto)]
 
 pub mod kind;
-mod refusal;
+pub mod output;
 pub mod relay;
 pub mod transistor;

@@ -1,66 +1,42 @@
 // A board that keeps its outputs as one byte. At most two of them may be on at a time.
 ghost use Rattle.std.specs.Prelude.{◌≡◌};
-ghost use Rattle.board.specs.Outputs.{new_board};
-ghost use Rattle.board.specs.Kinds.{transistor_limit, transistor_outputs};
+ghost use Rattle.board.specs.Kinds.{transistor_limit};
 ghost use Rattle.std.proofs.Common.{lit≤};
 
-use crate::kind::Board;
-use crate::refusal::refused;
-use weight::fault::Fault;
+use crate::output::{OutputBoard, Switches};
 
-#[derive(Drop)]
-pub struct TransistorBoard {
-    standing: u8,
-    tripped: bool,
+// Transistor n is on where bit n of the byte is 1.
+#[derive(Clone, Copy)]
+pub struct Transistors(u8);
+
+pub type TransistorBoard = OutputBoard<Transistors>;
+
+impl From<u8> for Transistors {
+    ghost from_gives = { λ byte t. t.0 ≡ byte };
+
+    fn from(byte: u8) -> Transistors {
+        Transistors(byte)
+    }
 }
 
-impl TransistorBoard {
+impl From<Transistors> for u8 {
+    ghost from_gives = { λ t byte. byte ≡ t.0 };
+
+    fn from(transistors: Transistors) -> u8 {
+        transistors.0
+    }
+}
+
+impl Switches for Transistors {
+    ghost LIMIT = { transistor_limit };
+
     const LIMIT: u8 = 2;
 
-    // All outputs are off, and the board is not tripped.
-    pub fn new() -> Self
-        ensures { transistor_outputs result ≡ new_board transistor_limit }
-    {
-        TransistorBoard {
-            standing: 0,
-            tripped: false,
-        }
-    }
-}
+    ghost byte_of = { λ t. t.0 };
 
-impl Board for TransistorBoard {
-    ghost has = { transistor_outputs };
+    ghost set = { λ _ _ _ same. same };
 
-    ghost limited = { λ b. lit≤ tt };
+    ghost read = { λ _ _ same. same };
 
-    fn standing(&self) -> u8 {
-        self.standing
-    }
-
-    fn tripped(&self) -> bool {
-        self.tripped
-    }
-
-    fn limit(&self) -> u8 {
-        Self::LIMIT
-    }
-
-    fn drive(&mut self, byte: u8) -> Result<(), Fault> {
-        if refused(self.tripped, self.limit(), byte) {
-            self.trip();
-            return Err(Fault::DriveRefused);
-        }
-        self.standing = byte;
-        Ok(())
-    }
-
-    fn trip(&mut self) {
-        self.standing = 0;
-        self.tripped = true;
-    }
-
-    fn reset(&mut self) {
-        self.standing = 0;
-        self.tripped = false;
-    }
+    ghost few = { lit≤ tt };
 }

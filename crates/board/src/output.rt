@@ -1,29 +1,29 @@
-// A board of eight outputs over switches of any kind. It is written and proved once.
-ghost use Rattle.std.specs.Prelude.{◌≡◌, ◌^◌, ◌<◌, ◌≤◌, ℕ};
+// A board of eight outputs over switches of any kind.
+ghost use Rattle.std.specs.Prelude.{◌≡◌, ◌<◌, ◌≤◌, ℕ};
 ghost use Rattle.board.specs.Outputs.{new_board, refuses};
 ghost use Rattle.board.specs.Kinds.{outputs_of};
 
 use crate::kind::Board;
 use weight::fault::Fault;
 
-// Eight switches, one for each output. They are set from a byte, and make that byte again: bit n is switch n.
+// Eight switches, switch n for output n, and the bytes that set them and are read of them.
 pub trait Switches: Copy + From<u8> + Into<u8> {
     // How many of them may be on at a time.
     ghost LIMIT: { ℕ };
 
     const LIMIT: u8;
 
-    // The byte that they make.
+    // The byte that they make: bit n is 1 where switch n is on.
     ghost byte_of: { Self → ℕ };
 
     // Set from a byte, they make that byte again.
-    ghost set: { (byte : ℕ) (s : Self) → byte < 2 ^ 8 → Self.from_gives byte s → byte_of s ≡ byte };
+    ghost kept: { (byte : ℕ) (switches : Self) → byte < 256 → Self.from_gives byte switches → byte_of switches ≡ byte };
 
     // What is read of them is the byte that they make.
-    ghost read: { (s : Self) (byte : ℕ) → Self.converts s byte → byte ≡ byte_of s };
+    ghost read: { (switches : Self) (byte : ℕ) → Self.converts switches byte → byte ≡ byte_of switches };
 
     // There are eight, so no more can be on.
-    ghost few: { LIMIT ≤ 8 };
+    ghost limited: { LIMIT ≤ 8 };
 }
 
 // The switches as they are set, or none once the board is tripped: then no output is on.
@@ -47,20 +47,17 @@ impl<S: Switches> OutputBoard<S> {
     fn refuses(&self, byte: u8) -> bool
         ensures { result ≡ refuses (outputs_of S.byte_of S.LIMIT self.now) byte }
     {
-        byte != 0 && (self.tripped() || byte.count_ones() > u32::from(S::LIMIT))
+        byte != 0 && (self.tripped() || byte.count_ones() > u32::from(self.limit()))
     }
 }
 
 impl<S: Switches> Board for OutputBoard<S> {
     ghost has = { outputs_of S.byte_of S.LIMIT };
 
-    ghost limited = { λ b. S.few };
+    ghost limited = { λ _. S.limited };
 
     fn standing(&self) -> u8 {
-        match self.switches {
-            Some(switches) => switches.into(),
-            None => 0,
-        }
+        self.switches.map_or(0, |switches| switches.into())
     }
 
     fn tripped(&self) -> bool {
@@ -77,7 +74,7 @@ impl<S: Switches> Board for OutputBoard<S> {
             self.trip();
             return Err(Fault::DriveRefused);
         }
-        // A tripped board takes only 0, and stays tripped.
+        // A tripped board takes 0 alone, and stays tripped.
         if let Some(switches) = &mut self.switches {
             *switches = S::from(byte);
         }

@@ -1,6 +1,6 @@
 // A box of eight relays, relay n for output n. All of them may be on at a time.
-ghost use Rattle.std.specs.Prelude.{◌≡◌, if◌then◌else◌, ◌≤◌};
-ghost use Rattle.board.specs.Kinds.{relay_limit};
+ghost use Rattle.std.specs.Prelude.{◌≡◌};
+ghost use Rattle.board.specs.Kinds.{relay_limit, relays_byte};
 ghost use Rattle.board.specs.Relays.{bits, byte_of};
 ghost use Rattle.board.specs.Bytes.{byte_bits};
 ghost use Rattle.std.proofs.Common.{lit≤, ap, ◌∙◌};
@@ -9,48 +9,33 @@ use crate::output::{OutputBoard, Switches};
 
 // Relay n is on where bit n of the byte is 1.
 #[derive(Clone, Copy)]
-pub struct Relays([bool; 8]);
+pub struct Relays(pub [bool; 8]);
 
 pub type RelayBox = OutputBoard<Relays>;
 
 impl From<u8> for Relays {
     ghost from_gives = { λ byte relays. relays.0 ≡ bits byte };
 
+    #[tactic(auto, using(crate::proofs::Turns::eight_bits))]
     fn from(byte: u8) -> Relays {
-        Relays([
-            byte % 2 == 1,
-            byte / 2 % 2 == 1,
-            byte / 4 % 2 == 1,
-            byte / 8 % 2 == 1,
-            byte / 16 % 2 == 1,
-            byte / 32 % 2 == 1,
-            byte / 64 % 2 == 1,
-            byte / 128 % 2 == 1,
-        ])
+        let mut relays = [false; 8];
+        for (n, on) in relays.iter_mut().enumerate() {
+            *on = byte >> n & 1 == 1;
+        }
+        Relays(relays)
     }
 }
 
-// What a relay adds to the byte: what its bit is worth, where it is on.
-fn worth_of(on: bool, worth: u8) -> u8
-    ensures value { result ≡ (if on then worth else 0) }
-    ensures bound { result ≤ worth }
-{
-    if on { worth } else { 0 }
-}
-
 impl From<Relays> for u8 {
-    ghost from_gives = { λ relays byte. byte ≡ byte_of relays.0 };
+    ghost from_gives = { λ relays byte. byte ≡ relays_byte relays };
 
+    #[tactic(auto, using(crate::proofs::Turns::first_of_more))]
     fn from(relays: Relays) -> u8 {
-        let Relays([r0, r1, r2, r3, r4, r5, r6, r7]) = relays;
-        worth_of(r0, 1)
-            + worth_of(r1, 2)
-            + worth_of(r2, 4)
-            + worth_of(r3, 8)
-            + worth_of(r4, 16)
-            + worth_of(r5, 32)
-            + worth_of(r6, 64)
-            + worth_of(r7, 128)
+        let mut byte = 0;
+        for (n, on) in relays.0.iter().enumerate() {
+            byte += u8::from(*on) << n;
+        }
+        byte
     }
 }
 
@@ -59,11 +44,11 @@ impl Switches for Relays {
 
     const LIMIT: u8 = 8;
 
-    ghost byte_of = { λ relays. byte_of relays.0 };
+    ghost byte_of = { relays_byte };
 
-    ghost set = { λ byte relays fits same. ap byte_of same ∙ byte_bits byte fits };
+    ghost kept = { λ byte relays fits same. ap byte_of same ∙ byte_bits byte fits };
 
     ghost read = { λ _ _ same. same };
 
-    ghost few = { lit≤ tt };
+    ghost limited = { lit≤ tt };
 }

@@ -1,0 +1,16 @@
+-- Eight relays, one after another.
+use Rattle.std.proofs.Common.{◌≡◌, ℕ, zero, suc, ◌+◌, ◌<◌, List, length, Bool, false, slice_index_or, add-one}
+use Rattle.std.proofs.lemmas.List.FromFn.{fill_by_all}
+use Rattle.board.specs.Relays.{bit, bits, worth_of}
+
+-- they are the bits of a byte where each of them is
+pub eight_bits : (rs : List Bool) (b : ℕ) → length rs ≡ 8 → ((k : ℕ) → k < 8 → slice_index_or rs k false ≡ bit b k) → rs ≡ bits b
+eight_bits rs b whole set = fill_by_all (bit b) rs 8 false whole set
+
+-- what the first n relays make
+abbrev pub first_of : List Bool → ℕ → ℕ
+first_of rs zero = 0
+first_of rs (suc n) = first_of rs n + worth_of rs n
+
+pub first_of_more : (rs : List Bool) (n : ℕ) → first_of rs (n + 1) ≡ first_of rs n + worth_of rs n
+first_of_more rs n = rw add-one

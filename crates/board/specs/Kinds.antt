@@ -15,7 +15,7 @@ outputs_of switches_byte limit b = record {
   limit = limit;
 }
 
--- How many outputs may be on at a time.
+-- How many outputs of each kind of board may be on at a time.
 abbrev pub transistor_limit : ℕ
 transistor_limit = 2
 
@@ -29,6 +29,7 @@ transistors_byte t = t.0
 abbrev pub relays_byte : Relays → ℕ
 relays_byte r = byte_of r.0
 
+-- What a board of each kind has.
 abbrev pub transistor_outputs : OutputBoard Transistors → Outputs
 transistor_outputs = outputs_of transistors_byte transistor_limit
 

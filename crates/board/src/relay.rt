@@ -16,11 +16,11 @@ pub type RelayBox = OutputBoard<Relays>;
 impl From<u8> for Relays {
     ghost from_gives = { λ byte relays. relays.0 ≡ bits byte };
 
-    #[tactic(auto, using(crate::proofs::Turns::eight_bits))]
+    #[tactic(auto, using(crate::proofs::EachRelay::eight_bits))]
     fn from(byte: u8) -> Relays {
         let mut relays = [false; 8];
         for (n, on) in relays.iter_mut().enumerate() {
-            *on = byte >> n & 1 == 1;
+            *on = (byte >> n) & 1 == 1;
         }
         Relays(relays)
     }
@@ -29,7 +29,7 @@ impl From<u8> for Relays {
 impl From<Relays> for u8 {
     ghost from_gives = { λ relays byte. byte ≡ relays_byte relays };
 
-    #[tactic(auto, using(crate::proofs::Turns::first_of_more))]
+    #[tactic(auto, using(crate::proofs::EachRelay::byte_of_first_more))]
     fn from(relays: Relays) -> u8 {
         let mut byte = 0;
         for (n, on) in relays.0.iter().enumerate() {

@@ -7,10 +7,10 @@ use Rattle.board.specs.Relays.{bit, bits, worth_of}
 pub eight_bits : (rs : List Bool) (b : ℕ) → length rs ≡ 8 → ((k : ℕ) → k < 8 → slice_index_or rs k false ≡ bit b k) → rs ≡ bits b
 eight_bits rs b whole set = fill_by_all (bit b) rs 8 false whole set
 
--- what the first n relays make
-abbrev pub first_of : List Bool → ℕ → ℕ
-first_of rs zero = 0
-first_of rs (suc n) = first_of rs n + worth_of rs n
+-- the byte that the first n relays make
+abbrev pub byte_of_first : List Bool → ℕ → ℕ
+byte_of_first rs zero = 0
+byte_of_first rs (suc n) = byte_of_first rs n + worth_of rs n
 
-pub first_of_more : (rs : List Bool) (n : ℕ) → first_of rs (n + 1) ≡ first_of rs n + worth_of rs n
-first_of_more rs n = rw add-one
+pub byte_of_first_more : (rs : List Bool) (n : ℕ) → byte_of_first rs (n + 1) ≡ byte_of_first rs n + worth_of rs n
+byte_of_first_more rs n = rw add-one

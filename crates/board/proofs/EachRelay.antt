@@ -1,5 +1,5 @@
 -- Eight relays, one after another.
-use Rattle.std.proofs.Common.{◌≡◌, ℕ, zero, suc, ◌+◌, ◌<◌, List, length, Bool, false, slice_index_or, add-one}
+use Rattle.std.proofs.Common.{◌≡◌, ℕ, zero, suc, ◌+◌, ◌<◌, List, length, Bool, false, slice_index_or}
 use Rattle.std.proofs.lemmas.List.FromFn.{fill_by_all}
 use Rattle.board.specs.Relays.{bit, bits, worth_of}
 
@@ -11,6 +11,3 @@ eight_bits rs b whole set = fill_by_all (bit b) rs 8 false whole set
 abbrev pub byte_of_first : List Bool → ℕ → ℕ
 byte_of_first rs zero = 0
 byte_of_first rs (suc n) = byte_of_first rs n + worth_of rs n
-
-pub byte_of_first_more : (rs : List Bool) (n : ℕ) → byte_of_first rs (n + 1) ≡ byte_of_first rs n + worth_of rs n
-byte_of_first_more rs n = rw add-one

@@ -29,7 +29,6 @@ impl From<u8> for Relays {
 impl From<Relays> for u8 {
     ghost from_gives = { λ relays byte. byte ≡ relays_byte relays };
 
-    #[tactic(auto, using(crate::proofs::EachRelay::byte_of_first_more))]
     fn from(relays: Relays) -> u8 {
         let mut byte = 0;
         for (n, on) in relays.0.iter().enumerate() {

@@ -28,10 +28,3 @@ transistors_byte t = t.0
 
 abbrev pub relays_byte : Relays → ℕ
 relays_byte r = byte_of r.0
-
--- What a board of each kind has.
-abbrev pub transistor_outputs : OutputBoard Transistors → Outputs
-transistor_outputs = outputs_of transistors_byte transistor_limit
-
-abbrev pub relay_outputs : OutputBoard Relays → Outputs
-relay_outputs = outputs_of relays_byte relay_limit

@@ -1,7 +1,7 @@
 // What every store does. A line records on any store that meets this.
 ghost use Rattle.std.specs.Prelude.{◌≡◌, length};
 ghost use Rattle.std.specs.List.{slice_get};
-ghost use Rattle.store.specs.Kept.{Kept, after_add, after_clear, weights_of};
+ghost use Rattle.store.specs.Kept.{HasPlaces, Kept, after_add, after_clear, weights_of};
 
 pub trait Store {
     // the weights that are kept, and the number of places
@@ -22,4 +22,7 @@ pub trait Store {
     // The weight at a position, the oldest at 0, or none.
     fn get(&self, i: usize) -> Option<i32>
         ensures value { result ≡ slice_get (weights_of (holds self.now)) i };
+
+    // There is at least one place.
+    ghost has_places: { (s : Self) → HasPlaces (holds s) };
 }

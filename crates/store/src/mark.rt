@@ -1,43 +1,39 @@
 // Where the records of a ring lie in its slots.
-ghost use Rattle.std.specs.Prelude.{◌≡◌, ◌<◌};
+ghost use Rattle.std.specs.Prelude.{◌≡◌, ◌<◌, IfSome, SomeIff};
 ghost use Rattle.store.specs.Places.{goes_at, mark_after, count_of, lies_at};
 
-// How many slots were written since the ring was empty or went back to the first slot, and whether it ever went back:
-// then the slots from there on hold older records.
+// How far a ring has filled its slots, and which slot the next record goes to.
 #[derive(Clone, Copy)]
-pub(crate) struct Mark {
-    next: usize,
-    wrapped: bool,
+pub(crate) enum Mark {
+    // The slots before that one hold records, and no other.
+    Filling { next: usize },
+    // Every slot holds a record, and that one holds the oldest.
+    Full { next: usize },
 }
 
 impl Mark {
     // Nothing is kept.
-    pub(crate) const NONE: Mark = Mark {
-        next: 0,
-        wrapped: false,
-    };
+    pub(crate) const NONE: Mark = Mark::Filling { next: 0 };
 
-    // The slot that the next record goes to: the one after those written, or the first again after the last.
-    pub(crate) fn goes_at(self, places: usize) -> usize
-        ensures { result ≡ goes_at places self }
+    // The slot that the next record goes to.
+    pub(crate) fn goes_at(self) -> usize
+        ensures { result ≡ goes_at self }
     {
-        if self.next < places { self.next } else { 0 }
+        match self {
+            Mark::Filling { next } | Mark::Full { next } => next,
+        }
     }
 
-    // The mark once a record has gone to its slot.
+    // The mark once a record has gone to its slot: after the last slot comes the first again.
     pub(crate) fn after(self, places: usize) -> Mark
-        ensures { result ≡ mark_after places self }
+        requires { goes_at self < places }
+        ensures after { result ≡ mark_after places self }
+        ensures within { goes_at result < places }
     {
-        if self.next < places {
-            Mark {
-                next: self.next + 1,
-                wrapped: self.wrapped,
-            }
-        } else {
-            Mark {
-                next: 1,
-                wrapped: true,
-            }
+        match self {
+            Mark::Filling { next } if next + 1 < places => Mark::Filling { next: next + 1 },
+            Mark::Full { next } if next + 1 < places => Mark::Full { next: next + 1 },
+            _ => Mark::Full { next: 0 },
         }
     }
 
@@ -45,24 +41,23 @@ impl Mark {
     pub(crate) fn count(self, places: usize) -> usize
         ensures { result ≡ count_of places self }
     {
-        if self.wrapped {
-            places
-        } else {
-            self.next.min(places)
+        match self {
+            Mark::Filling { next } => next,
+            Mark::Full { .. } => places,
         }
     }
 
-    // The slot of the record at a position, the oldest at 0.
-    pub(crate) fn lies_at(self, places: usize, i: usize) -> usize
-        requires { i < count_of places self }
-        ensures value { result ≡ lies_at places self i }
-        ensures within { result < places }
+    // The slot of the record at a position, the oldest at 0, or none.
+    pub(crate) fn lies_at(self, places: usize, i: usize) -> Option<usize>
+        requires { goes_at self < places }
+        ensures value { SomeIff result (i < count_of places self) (lies_at places self i) }
+        ensures within { IfSome result (λ at. at < places) }
     {
-        if self.wrapped {
-            let older = places.saturating_sub(self.next);
-            if i < older { self.next + i } else { i - older }
-        } else {
-            i
+        match self {
+            Mark::Filling { next } if i < next => Some(i),
+            Mark::Full { next } if i < places - next => Some(next + i),
+            Mark::Full { next } if i < places => Some(i - (places - next)),
+            _ => None,
         }
     }
 }

@@ -20,7 +20,7 @@ pub trait Record: Copy {
 }
 
 // A weight alone.
-#[derive(Clone, Copy)]
+#[derive(Clone, Copy, PartialEq, Eq, Debug)]
 pub struct Weight(pub i32);
 
 impl Record for Weight {
@@ -40,7 +40,7 @@ impl Record for Weight {
 }
 
 // A weight with the number of the tick at which it was recorded.
-#[derive(Clone, Copy)]
+#[derive(Clone, Copy, PartialEq, Eq, Debug)]
 pub struct Stamped {
     pub weight: i32,
     pub tick: u32,

@@ -1,12 +1,12 @@
 // A roll: it keeps 64 weights itself.
-ghost use Rattle.std.specs.Prelude.{◌≡◌};
-ghost use Rattle.store.specs.Kept.{HasPlaces, none_of};
-ghost use Rattle.store.specs.Kinds.{roll_holds, roll_places};
+ghost use Rattle.std.specs.Prelude.{◌≡◌, ◌<◌};
+ghost use Rattle.store.specs.declared.roll.TheConstants.{PLACES};
+ghost use Rattle.store.specs.Places.{goes_at};
 
 use crate::kind::Store;
 use crate::mark::Mark;
 use crate::record::{Record, Weight};
-use crate::slots;
+use crate::slots::{self, Records};
 
 const PLACES: usize = 64;
 
@@ -14,9 +14,13 @@ const PLACES: usize = 64;
 pub struct Roll {
     slots: [Weight; PLACES],
     mark: Mark,
+    ghost within: { goes_at mark < PLACES },
 }
 
 impl Roll {
+    ghost use Rattle.store.specs.Kept.{HasPlaces, none_of};
+    ghost use Rattle.store.specs.Kinds.{records_of, roll_holds, roll_places, roll_records};
+
     // An empty roll.
     pub fn new() -> Roll
         ensures empty { roll_holds result ≡ none_of roll_places }
@@ -27,14 +31,27 @@ impl Roll {
             mark: Mark::NONE,
         }
     }
+
+    fn records(&self) -> Records<'_, Weight>
+        ensures { records_of result ≡ roll_records self.now }
+    {
+        Records {
+            slots: &self.slots,
+            mark: self.mark,
+        }
+    }
 }
 
 impl Store for Roll {
+    ghost use Rattle.std.proofs.Common.{lit≤};
+    ghost use Rattle.store.specs.Kinds.{roll_holds};
+
     ghost holds = { roll_holds };
 
+    ghost has_places = { λ r. lit≤ tt };
+
     fn add(&mut self, weight: i32, tick: u32) {
-        let mark = self.mark;
-        self.mark = slots::put(&mut self.slots, mark, weight, tick);
+        self.mark = slots::put(&mut self.slots, self.mark, weight, tick);
     }
 
     fn clear(&mut self) {
@@ -42,10 +59,10 @@ impl Store for Roll {
     }
 
     fn len(&self) -> usize {
-        slots::count(&self.slots, self.mark)
+        self.records().len()
     }
 
     fn get(&self, i: usize) -> Option<i32> {
-        slots::weight(&self.slots, self.mark, i)
+        self.records().weight(i)
     }
 }

@@ -1,14 +1,15 @@
--- What the ring and the roll hold.
-use Rattle.std.specs.Prelude.{◌≡◌, ℕ, List, map, length, ℤ, Ok, Err, Result}
+-- What the ring and the roll hold, and what is left of the weights of any store.
+use Rattle.std.specs.Prelude.{◌≡◌, ℕ, List, map, length, drop, ℤ, Ok, Err, Result}
 use Rattle.weight.specs.declared.fault.Fault.{Fault}
 use Rattle.weight.specs.declared.fault.Fault.TheVariants.{NoPlaces}
-use Rattle.store.specs.Kept.{Kept, HasPlaces, none_of}
+use Rattle.store.specs.Kept.{Kept, HasPlaces, none_of, weights_of}
 use Rattle.store.specs.Places.{oldest_first}
 use Rattle.store.specs.Records.{weight_of}
 use Rattle.store.specs.declared.record.Weight.{Weight}
 use Rattle.store.specs.declared.slots.Records.{Records}
 use Rattle.store.specs.declared.ring.Ring.{Ring}
 use Rattle.store.specs.declared.roll.Roll.{Roll}
+use Rattle.store.specs.declared.weights.Weights.{Weights}
 
 -- the records that lie in some slots, oldest first
 abbrev pub records_of : {X : Type 0} → Records X → List X
@@ -39,3 +40,7 @@ roll_records r = oldest_first r.slots r.mark
 
 abbrev pub roll_holds : Roll → Kept
 roll_holds r = record { weights = map weight_of (roll_records r); places = roll_places }
+
+-- the weights that an iterator over a store has left
+abbrev pub weights_left : {S : Type 0} → (S → Kept) → Weights S → List ℤ
+weights_left holds w = drop w.next (weights_of (holds w.store.now))

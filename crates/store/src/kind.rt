@@ -3,7 +3,11 @@ ghost use Rattle.std.specs.Prelude.{◌≡◌, length};
 ghost use Rattle.std.specs.List.{slice_get};
 ghost use Rattle.store.specs.Kept.{HasPlaces, Kept, after_add, after_clear, weights_of};
 
+use crate::weights::Weights;
+
 pub trait Store {
+    ghost use Rattle.store.specs.Kinds.{weights_left};
+
     // the weights that are kept, and the number of places
     ghost holds: { Self → Kept };
 
@@ -22,6 +26,16 @@ pub trait Store {
     // The weight at a position, the oldest at 0, or none.
     fn get(&self, i: usize) -> Option<i32>
         ensures value { result ≡ slice_get (weights_of (holds self.now)) i };
+
+    // The weights, oldest first.
+    final fn weights(&self) -> Weights<'_, Self>
+        ensures { weights_left holds result ≡ weights_of (holds self.now) }
+    {
+        Weights {
+            store: self,
+            next: 0,
+        }
+    }
 
     // There is at least one place.
     ghost has_places: { (s : Self) → HasPlaces (holds s) };

@@ -7,3 +7,4 @@ pub mod record;
 pub mod ring;
 pub mod roll;
 mod slots;
+pub mod weights;

@@ -42,6 +42,7 @@ impl Roll {
     }
 }
 
+// The ring's calls again, each one line: one type over lent and own slots would need these lines, and a trait for slots.
 impl Store for Roll {
     ghost use Rattle.std.proofs.Common.{lit≤};
     ghost use Rattle.store.specs.Kinds.{roll_holds};

@@ -1,6 +1,6 @@
 // Where the records of a ring lie in its slots.
-ghost use Rattle.std.specs.Prelude.{◌≡◌, ◌<◌, IfSome, SomeIff};
-ghost use Rattle.store.specs.Places.{goes_at, mark_after, count_of, lies_at};
+ghost use Rattle.std.specs.Prelude.{◌≡◌, ◌<◌};
+ghost use Rattle.store.specs.Places.{goes_at, mark_after};
 
 // How far a ring has filled its slots, and which slot the next record goes to.
 #[derive(Clone, Copy)]
@@ -34,30 +34,6 @@ impl Mark {
             Mark::Filling { next } if next + 1 < places => Mark::Filling { next: next + 1 },
             Mark::Full { next } if next + 1 < places => Mark::Full { next: next + 1 },
             _ => Mark::Full { next: 0 },
-        }
-    }
-
-    // How many records are kept.
-    pub(crate) fn count(self, places: usize) -> usize
-        ensures { result ≡ count_of places self }
-    {
-        match self {
-            Mark::Filling { next } => next,
-            Mark::Full { .. } => places,
-        }
-    }
-
-    // The slot of the record at a position, the oldest at 0, or none.
-    pub(crate) fn lies_at(self, places: usize, i: usize) -> Option<usize>
-        requires { goes_at self < places }
-        ensures value { SomeIff result (i < count_of places self) (lies_at places self i) }
-        ensures within { IfSome result (λ at. at < places) }
-    {
-        match self {
-            Mark::Filling { next } if i < next => Some(i),
-            Mark::Full { next } if i < places - next => Some(next + i),
-            Mark::Full { next } if i < places => Some(i - (places - next)),
-            _ => None,
         }
     }
 }

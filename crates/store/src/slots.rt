@@ -1,8 +1,8 @@
 // A ring's records over some slots: proved once, for every kind of record.
-ghost use Rattle.std.specs.Prelude.{◌≡◌, ◌<◌, map, length};
+ghost use Rattle.std.specs.Prelude.{◌≡◌, ◌<◌, map, length, IfSome, SomeIff};
 ghost use Rattle.std.specs.List.{slice_get};
 ghost use Rattle.store.specs.Kept.{added};
-ghost use Rattle.store.specs.Places.{goes_at, oldest_first, written};
+ghost use Rattle.store.specs.Places.{goes_at, oldest_first, written, count_of, lies_at};
 
 use crate::mark::Mark;
 use crate::record::Record;
@@ -34,14 +34,31 @@ impl<'a, T: Record> Records<'a, T> {
     pub(crate) fn len(&self) -> usize
         ensures { result ≡ length (map T.Record.weighs (records_of self.now)) }
     {
-        self.mark.count(self.slots.len())
+        match self.mark {
+            Mark::Filling { next } => next,
+            Mark::Full { .. } => self.slots.len(),
+        }
+    }
+
+    // The slot of the record at a position, the oldest at 0, or none.
+    fn lies_at(&self, i: usize) -> Option<usize>
+        ensures value { let places = length self.now.slots.now in SomeIff result (i < count_of places self.now.mark) (lies_at places self.now.mark i) }
+        ensures within { IfSome result (λ at. at < length self.now.slots.now) }
+    {
+        let places = self.slots.len();
+        match self.mark {
+            Mark::Filling { next } if i < next => Some(i),
+            Mark::Full { next } if i < places - next => Some(next + i),
+            Mark::Full { next } if i < places => Some(i - (places - next)),
+            _ => None,
+        }
     }
 
     // The record at a position, the oldest at 0.
     pub(crate) fn get(&self, i: usize) -> Option<T>
         ensures { result ≡ slice_get (records_of self.now) i }
     {
-        let at = self.mark.lies_at(self.slots.len(), i)?;
+        let at = self.lies_at(i)?;
         Some(self.slots[at])
     }
 

@@ -1,6 +1,5 @@
 // Items are sorted by their weights, kept on a ring over lent memory and on a roll, and totalled.
-use crate::refusal::print_refusal;
-use anyhow::anyhow;
+use anyhow::{anyhow, bail};
 use recipe::draft::SortDraft;
 use recipe::sort::SortRecipe;
 use store::kind::Store;
@@ -8,7 +7,7 @@ use store::record::{Stamped, Weight};
 use store::ring::Ring;
 use store::roll::Roll;
 use totals::row::Row;
-use totals::table::{CLASSES, Totals};
+use totals::table::Totals;
 
 // What a belt scale read of each item: the tick of its last gross weight, the sum of all, and their number.
 const READINGS: [(u32, i64, u32); 9] = [
@@ -57,20 +56,17 @@ pub fn sort_items(rt: &HostRuntime) -> anyhow::Result<()> {
             ..ORDER
         },
     )?;
-    match SortRecipe::new(ORDER) {
-        Ok(recipe) => {
-            sort_on_ring(rt, &recipe, &mut [])?;
-            sort_on_ring(rt, &recipe, &mut [Stamped { weight: 0, tick: 0 }; 4])
-        }
-        Err(fault) => print_refusal(rt, "the order", fault),
-    }
+    let recipe = SortRecipe::new(ORDER)?;
+    sort_on_ring(rt, &recipe, &mut [])?;
+    sort_on_ring(rt, &recipe, &mut [Stamped { weight: 0, tick: 0 }; 4])
 }
 
 fn refuse(rt: &HostRuntime, label: &str, draft: SortDraft<'_>) -> anyhow::Result<()> {
-    match SortRecipe::new(draft) {
-        Ok(_) => Err(anyhow!("a bad draft was accepted")),
-        Err(fault) => print_refusal(rt, label, fault),
-    }
+    let Err(fault) = SortRecipe::new(draft) else {
+        bail!("a bad draft was accepted");
+    };
+    println!(rt; "  {label} refused, {fault}")?;
+    Ok(())
 }
 
 fn sort_on_ring(
@@ -87,7 +83,10 @@ fn sort_on_ring(
             replay(rt, &roll, &mut [Weight(0); 3])?;
             print_totals(rt, &totals)
         }
-        Err(fault) => print_refusal(rt, "a ring over no places", fault),
+        Err(fault) => {
+            println!(rt; "  a ring over no places refused, {fault}")?;
+            Ok(())
+        }
     }
 }
 
@@ -100,9 +99,9 @@ fn sort_all<R: Store, S: Store>(
 ) -> anyhow::Result<Totals> {
     let mut totals = Totals::new();
     for (tick, sum, number) in READINGS {
-        let Some(x) = recipe.item_weight(sum, number) else {
-            return Err(anyhow!("no item has such readings"));
-        };
+        let x = recipe
+            .item_weight(sum, number)
+            .ok_or_else(|| anyhow!("no item has such readings"))?;
         print!(rt; "  tick {tick:>3}  readings {number:>2}  sum {sum:>7}  weighs {x:>7}")?;
         match recipe.channel(x) {
             Some(channel) => {
@@ -120,36 +119,26 @@ fn sort_all<R: Store, S: Store>(
 fn print_records(rt: &HostRuntime, ring: &Ring<'_, Stamped>) -> anyhow::Result<()> {
     let kept = ring.len();
     println!(rt; "The ring keeps {kept}, oldest first")?;
-    for i in 0..kept {
-        if let Some(Stamped { weight, tick }) = ring.at(i) {
-            println!(rt; "  tick {tick:>3}  weight {weight:>7}")?;
-        }
+    for Stamped { weight, tick } in (0..kept).filter_map(|i| ring.at(i)) {
+        println!(rt; "  tick {tick:>3}  weight {weight:>7}")?;
     }
     Ok(())
 }
 
 // Adds the weights of one store to a ring of plain weights.
 fn replay<R: Store>(rt: &HostRuntime, from: &R, memory: &mut [Weight]) -> anyhow::Result<()> {
-    match Ring::new(memory) {
-        Ok(mut ring) => {
-            for i in 0..from.len() {
-                if let Some(weight) = from.get(i) {
-                    ring.add(weight, 0);
-                }
-            }
-            print_weights(rt, "A ring of plain weights", &ring)
-        }
-        Err(fault) => print_refusal(rt, "a ring over no places", fault),
+    let mut ring = Ring::new(memory)?;
+    for weight in from.weights() {
+        ring.add(weight, 0);
     }
+    print_weights(rt, "A ring of plain weights", &ring)
 }
 
 fn print_weights<R: Store>(rt: &HostRuntime, name: &str, store: &R) -> anyhow::Result<()> {
     let kept = store.len();
     print!(rt; "{name} keeps {kept}:")?;
-    for i in 0..kept {
-        if let Some(weight) = store.get(i) {
-            print!(rt; " {weight}")?;
-        }
+    for weight in store.weights() {
+        print!(rt; " {weight}")?;
     }
     println!(rt; "")?;
     Ok(())
@@ -157,10 +146,8 @@ fn print_weights<R: Store>(rt: &HostRuntime, name: &str, store: &R) -> anyhow::R
 
 fn print_totals(rt: &HostRuntime, totals: &Totals) -> anyhow::Result<()> {
     println!(rt; "Totals by class")?;
-    for class in 0..CLASSES as u8 {
-        if let Some(Row { count, weight }) = totals.row(class) {
-            println!(rt; "  {class}        count {count:>2}  weight {weight:>7}")?;
-        }
+    for (class, Row { count, weight }) in (0..).map_while(|class| totals.row(class)).enumerate() {
+        println!(rt; "  {class}        count {count:>2}  weight {weight:>7}")?;
     }
     let Row { count, weight } = totals.overall();
     println!(rt; "  overall  count {count:>2}  weight {weight:>7}")?;

@@ -1,7 +1,7 @@
 // Runs each value of the table, and prints what came out beside what is expected.
 use crate::calls::{channel_of_item, weight_of_item};
-use anyhow::anyhow;
-use std::alloc::AllocError;
+use anyhow::{bail, ensure};
+use std::fmt;
 
 pub fn run_all(rt: &HostRuntime) -> anyhow::Result<()> {
     run_channels(rt)?;
@@ -16,21 +16,24 @@ fn run_channels(rt: &HostRuntime) -> anyhow::Result<()> {
         (250, Some(2)),
         (750, Some(3)),
     ] {
-        let Ok(actual) = channel_of_item(x) else {
-            return judge(false);
-        };
-        let came = channel_name(rt, actual)?;
-        let due = channel_name(rt, expected)?;
+        let actual = channel_of_item(x)?;
+        let (came, due) = (Sorted(actual), Sorted(expected));
         println!(rt; "limits 250 and 750, zone 100: {x} has {came}, expected {due}")?;
-        judge(actual == expected)?;
+        ensure!(actual == expected, "an edge value came out wrong");
     }
     Ok(())
 }
 
-fn channel_name(rt: &HostRuntime, channel: Option<u8>) -> Result<String, AllocError> {
-    match channel {
-        Some(k) => format!(in rt.alloc(); "channel {k}"),
-        None => format!(in rt.alloc(); "no channel"),
+// Where an item goes: to a channel, or to none.
+#[derive(Drop)]
+struct Sorted(Option<u8>);
+
+impl fmt::Display for Sorted {
+    fn fmt<W: fmt::Write>(&self, f: &mut fmt::Formatter<W>) -> fmt::Result {
+        match self.0 {
+            Some(channel) => write!(f, "channel {channel}"),
+            None => write!(f, "no channel"),
+        }
     }
 }
 
@@ -39,32 +42,13 @@ fn run_weights(rt: &HostRuntime) -> anyhow::Result<()> {
         ("readings 1000 and 1001, correction", 0, 2_001, 2, 1_001),
         ("reading 1000, correction", 50, 1_000, 1, 1_005),
     ] {
-        match weight_of_item(correction, sum, number) {
-            Ok(Some(actual)) => compare(rt, label, correction as i32, actual, expected)?,
-            _ => return judge(false),
-        }
+        let Some(actual) = weight_of_item(correction, sum, number)? else {
+            bail!("no item has such readings");
+        };
+        println!(rt; "{label} {correction} shows {actual}, expected {expected}")?;
+        ensure!(actual == expected, "an edge value came out wrong");
     }
     Ok(())
-}
-
-fn compare(
-    rt: &HostRuntime,
-    label: &str,
-    input: i32,
-    actual: i32,
-    expected: i32,
-) -> anyhow::Result<()> {
-    println!(rt; "{label} {input} shows {actual}, expected {expected}")?;
-    judge(actual == expected)
-}
-
-// A value that came out wrong ends the program with an error.
-fn judge(right: bool) -> anyhow::Result<()> {
-    if right {
-        Ok(())
-    } else {
-        Err(anyhow!("an edge value came out wrong"))
-    }
 }
 
 #[cfg(test)]

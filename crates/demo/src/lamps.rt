@@ -40,6 +40,7 @@ fn drive<B: Board>(rt: &HostRuntime, board: &mut B, byte: u8) -> anyhow::Result<
 
 fn print_board<B: Board>(rt: &HostRuntime, label: &str, board: &B) -> anyhow::Result<()> {
     let standing = board.standing();
+    // A word of this table alone.
     let tripped = if board.tripped() { ", tripped" } else { "" };
     println!(rt; "  {label:<28} {standing:02X}H stands{tripped}")?;
     Ok(())

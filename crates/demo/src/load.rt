@@ -72,6 +72,7 @@ fn show_each<S: Scale + Drop>(rt: &HostRuntime, mut scale: S) -> anyhow::Result<
 
 fn print_reading(rt: &HostRuntime, label: &str, reading: Reading) -> anyhow::Result<()> {
     let gross = reading.gross;
+    // The words of this table; a Display for readings would fix them, and the columns, for every program.
     let stable = if reading.stable {
         "stable"
     } else {

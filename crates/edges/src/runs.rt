@@ -37,6 +37,7 @@ fn compare(
 fn run_board(rt: &HostRuntime) -> anyhow::Result<()> {
     for (byte, standing, tripped) in [(0x06u8, 0x06u8, false), (0x07, 0x00, true)] {
         let (answer, stands, trips) = driven_once(byte);
+        // A word of this table alone.
         let word = if answer.is_ok() {
             "accepted"
         } else {

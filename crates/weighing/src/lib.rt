@@ -74,7 +74,8 @@ pub fn settled_when_alike()
 {}
 
 // The functions below do the work of those above whose proofs have files, each from a scale that was given no sample
-// yet. They are instances of the generic calls, and say what these come to.
+// yet: a fact of new scales alone, and so asked here and no part of a type. They are instances of the generic calls,
+// and say what these come to.
 
 fn hand_over<S: Scale>(scale: &mut S, samples: &[Sample])
     ensures { Weighed S.shows S.takes scale.old samples.now scale.new }

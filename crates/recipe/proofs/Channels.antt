@@ -1,69 +1,50 @@
 -- A weight falls to a channel exactly when it lies between the channel's limits.
-use Rattle.std.proofs.Common.{◌≡◌, ℕ, zero, suc, ◌+◌, ◌-◌, ◌<◌, ◌≤◌, Bool, true, false, cond, List, [], ◌∷◌, length, get_or, ℤ, pos, ◌≤ℤ◌, ◌<ℤ◌, Some, None, refl, subst, ⊎_elim, arith}
+use Rattle.std.proofs.Common.{◌≡◌, ℕ, zero, suc, ◌+◌, ◌-◌, ◌<◌, ◌≤◌, Bool, true, false, not, cond, List, [], ◌∷◌, length, get_or, ℤ, pos, ◌≤ℤ◌, ◌<ℤ◌, Some, None, Option, subst, ⊎_elim, arith}
 use lib.Signed.{lt_z}
 use Rattle.std.proofs.lemmas.Int.{ints}
+use Rattle.std.proofs.lemmas.List.Sums.{prefix_len-le-length, prefix_len_passes, prefix_len_stops}
 use Rattle.std.proofs.lemmas.Bool.{cases_order}
 use Rattle.std.proofs.lemmas.Bool.Decides.{nat_tests}
-use Rattle.recipe.specs.Items.{channel_from, channel_of, channel_answer, item_counts, lies_within, BetweenLimits, WithinLimits, FoundChannel, ChannelInRange}
-use Rattle.recipe.specs.Sorts.{SortValues, most_limits, rising, sort_in_range, sort_keeps}
+use Rattle.recipe.specs.Items.{channel_from, channel_of, reached, channel_answer, item_counts, lies_within, BetweenLimits, WithinLimits, FoundChannel, ChannelInRange}
+use Rattle.recipe.specs.Limits.{most_limits}
+use Rattle.recipe.specs.Sorts.{SortValues, rising, sort_in_range, sort_keeps}
 
--- the channel from j on is j and as many more as limits are reached: the last of those is at most x, and the next above x
-record Found (j : ℕ) (ps : List ℕ) (n : ℕ) (x : ℤ) : Type 0 where
-  reached : ℕ
-  is : n ≡ j + reached
-  few : reached ≤ length ps
-  from : (m : ℕ) → reached ≡ suc m → pos (get_or ps m 0) ≤ℤ x
-  below : reached < length ps → x <ℤ pos (get_or ps reached 0)
+-- the channel from k on is k and as many more as limits are reached
+channel_past_from : (k : ℕ) (ps : List ℕ) (x : ℤ) → channel_from k ps x ≡ k + reached ps x
+channel_past_from k [] x = omega arith
+channel_past_from k (p ∷ ps) x = by (lt_z x (pos p)) (channel_past_from (k + 1) ps x)
+  where
+    by : (b : Bool) → channel_from (k + 1) ps x ≡ k + 1 + reached ps x → cond b k (channel_from (k + 1) ps x) ≡ k + cond (not b) (1 + reached ps x) 0
+    by true e = omega arith
+    by false e = omega (arith, e)
 
--- with one limit more in front
-module _ (j p : ℕ) (ps : List ℕ) (x : ℤ) (next : Found (j + 1) ps (channel_from (j + 1) ps x) x) where
-  from_next : lt_z x (pos p) ≡ false → (m : ℕ) → suc next.reached ≡ suc m → pos (get_or (p ∷ ps) m 0) ≤ℤ x
-  from_next t zero e = grind (arith, ints)
-  from_next t (suc m) e = next.from m (omega arith)
-
-  found_more : (b : Bool) → lt_z x (pos p) ≡ b → Found j (p ∷ ps) (cond b j (channel_from (j + 1) ps x)) x
-  found_more true t = record { reached = 0; is = omega arith; few = omega arith; from = λ m e. absurd (omega arith); below = λ l. grind (arith, ints) }
-  found_more false t = record {
-    reached = suc next.reached;
-    is = omega (arith, next.is);
-    few = omega (arith, next.few);
-    from = from_next t;
-    below = λ l. next.below (omega arith);
-  }
-
-found : (j : ℕ) (ps : List ℕ) (x : ℤ) → Found j ps (channel_from j ps x) x
-found j [] x = record { reached = 0; is = omega arith; few = omega arith; from = λ m e. absurd (omega arith); below = λ l. absurd (omega arith) }
-found j (p ∷ ps) x = found_more j p ps x (found (j + 1) ps x) (lt_z x (pos p)) refl
+pub channel_past : (ps : List ℕ) (x : ℤ) → channel_of ps x ≡ reached ps x + 1
+channel_past ps x = omega (arith, channel_past_from 1 ps x)
 
 -- the channel of x lies between its limits
 between : (ps : List ℕ) (x : ℤ) → BetweenLimits ps (channel_of ps x) x
 between ps x =
-    let f = found 1 ps x in
-    let n = channel_of ps x in
-    let is : n ≡ 1 + f.reached = f.is in
+    let is = channel_past ps x in
+    let few : reached ps x ≤ length ps = prefix_len-le-length _ ps in
     record {
       first = omega (arith, is);
-      last = omega (arith, is, f.few);
-      from = λ l. f.from (n - 1 - 1) (omega (arith, is));
-      below = λ l. let e : n - 1 ≡ f.reached = omega (arith, is) in rw e (f.below (omega (arith, is)));
+      last = omega (arith, is);
+      from = λ l. let t = prefix_len_passes (λ p. not (lt_z x (pos p))) ps (channel_of ps x - 1 - 1) 0 (omega (arith, is)) in grind (arith, ints, nat_tests);
+      below = λ l.
+          let t = prefix_len_stops (λ p. not (lt_z x (pos p))) ps 0 (omega (arith, is)) in
+          let e : channel_of ps x - 1 ≡ reached ps x = omega (arith, is) in
+          rw e (grind (arith, ints, nat_tests));
     }
 
--- each limit of a rising chain lies above what stands before it
-above : (b : ℕ) (ps : List ℕ) → rising b ps ≡ true → (i : ℕ) → i < length ps → b < get_or ps i 0
-above b [] h i l = absurd (omega arith)
-above b (p ∷ ps) h zero l = grind (arith, nat_tests)
-above b (p ∷ ps) h (suc i) l =
-    let low : b < p = grind (arith, nat_tests) in
-    let rest : rising p ps ≡ true = grind (arith, nat_tests) in
-    omega (arith, above p ps rest i (omega arith))
-
-ordered : (b : ℕ) (ps : List ℕ) → rising b ps ≡ true → (i k : ℕ) → i ≤ k → k < length ps → get_or ps i 0 ≤ get_or ps k 0
-ordered b [] h i k o l = absurd (omega arith)
-ordered b (p ∷ ps) h zero zero o l = omega arith
+-- no number of a rising chain lies below one that stands before it
+ordered : (b : ℕ) (ps : List ℕ) → rising b ps ≡ true → (i k : ℕ) → i ≤ k → k ≤ length ps → get_or (b ∷ ps) i 0 ≤ get_or (b ∷ ps) k 0
+ordered b ps h zero zero o l = omega arith
+ordered b ps h (suc i) zero o l = absurd (omega arith)
+ordered b [] h i (suc k) o l = absurd (omega arith)
 ordered b (p ∷ ps) h zero (suc k) o l =
     let rest : rising p ps ≡ true = grind (arith, nat_tests) in
-    omega (arith, above p ps rest k (omega arith))
-ordered b (p ∷ ps) h (suc i) zero o l = absurd (omega arith)
+    let next = ordered p ps rest 0 k (omega arith) (omega arith) in
+    grind (arith, nat_tests)
 ordered b (p ∷ ps) h (suc i) (suc k) o l =
     let rest : rising p ps ≡ true = grind (arith, nat_tests) in
     ordered p ps rest i k (omega arith) (omega arith)
@@ -74,7 +55,7 @@ module _ (b : ℕ) (ps : List ℕ) (h : rising b ps ≡ true) (x : ℤ) where
   apart k n p q l =
       let under : x <ℤ pos (get_or ps (k - 1) 0) = p.below (omega (arith, q.last)) in
       let over : pos (get_or ps (n - 1 - 1) 0) ≤ℤ x = q.from (omega (arith, p.first)) in
-      let o = ordered b ps h (k - 1) (n - 1 - 1) (omega (arith, p.first)) (omega (arith, p.first, q.last)) in
+      let o : get_or ps (k - 1) 0 ≤ get_or ps (n - 1 - 1) 0 = ordered b ps h (suc (k - 1)) (suc (n - 1 - 1)) (omega (arith, p.first)) (omega (arith, p.first, q.last)) in
       omega (arith, ints)
 
   alone : (k n : ℕ) → BetweenLimits ps k x → BetweenLimits ps n x → k ≡ n
@@ -102,19 +83,19 @@ module _ (v : SortValues) (x : ℤ) where
       grind (arith, nat_tests)
 
   -- the channel that is found is the one within whose bounds the weight lies
-  pub found_channel : sort_keeps v ≡ true → FoundChannel v x (channel_answer v x)
-  found_channel h = record {
+  pub found_channel : (o : Option ℕ) → o ≡ channel_answer v x → sort_keeps v ≡ true → FoundChannel v x o
+  found_channel o e h = rw e (record {
     within = λ k. (found_at k, lies_at k);
     bounds = λ k e. bounds_at k (lies_at k e);
     alone = λ k w. found_at k (lies_alone h k w);
-  }
+  })
 
   -- and it is one of seven
-  pub channel_range : sort_in_range v ≡ true → ChannelInRange (channel_answer v x)
-  channel_range h =
+  pub channel_range : (o : Option ℕ) → o ≡ channel_answer v x → sort_in_range v ≡ true → ChannelInRange o
+  channel_range o e h =
       let few : length v.limits ≤ most_limits = grind (arith, nat_tests) in
       let b = between v.limits x in
-      in_range (item_counts v.zone x) (channel_of v.limits x) (omega (arith, b.first)) (omega (arith, b.last))
+      rw e (in_range (item_counts v.zone x) (channel_of v.limits x) (omega (arith, b.first)) (omega (arith, b.last)))
     where
       in_range : (counts : Bool) (k : ℕ) → 1 ≤ k → k ≤ most_limits + 1 → ChannelInRange (cond counts (Some k) None)
       in_range true k l m = (l, m)

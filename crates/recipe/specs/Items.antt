@@ -1,9 +1,11 @@
 -- Items on the belt: which of them count, which channel each goes to, and what each weighs.
-use Rattle.std.specs.Prelude.{◌≡◌, ℕ, ◌+◌, ◌-◌, ◌*◌, ◌≤◌, Bool, true, cond, ◌&&◌, List, [], ◌∷◌, length, ℤ, pos, ◌*ℤ◌, ◌≤ℤ◌, ◌<ℤ◌, Some, None, Decides, Option, ◌==◌, int_le, int_lt, nat_le, slice_index, unsigned_abs}
+use Rattle.std.specs.Prelude.{◌≡◌, ℕ, ◌+◌, ◌-◌, ◌*◌, ◌≤◌, Bool, true, cond, not, ◌&&◌, List, [], ◌∷◌, length, ℤ, pos, ◌*ℤ◌, ◌≤ℤ◌, ◌<ℤ◌, Some, None, Decides, Option, ◌==◌, int_le, int_lt, nat_le, slice_index, unsigned_abs}
+use Rattle.std.specs.List.{prefix_len}
 use Rattle.weight.specs.Range.{most}
 use Rattle.weight.specs.Rounding.{rounding}
 use Rattle.recipe.specs.Ranges.{within, longest}
-use Rattle.recipe.specs.Sorts.{SortValues, most_limits}
+use Rattle.recipe.specs.Limits.{most_limits}
+use Rattle.recipe.specs.Sorts.{SortValues}
 
 -- An item of the weight X counts exactly when Z < X ≤ 999,999.
 abbrev pub item_counts : ℕ → ℤ → Bool
@@ -17,6 +19,10 @@ channel_from k (p ∷ ps) x = cond (int_lt x (pos p)) k (channel_from (k + 1) ps
 -- The channel of X.
 abbrev pub channel_of : List ℕ → ℤ → ℕ
 channel_of limits x = channel_from 1 limits x
+
+-- how many limits X reaches, up to the first that lies above it
+abbrev pub reached : List ℕ → ℤ → ℕ
+reached limits x = prefix_len (λ p. not (int_lt x (pos p))) limits
 
 -- A weight lies within the bounds of channel k: as X it counts and falls to that channel.
 abbrev pub lies_within : SortValues → ℕ → ℤ → Bool

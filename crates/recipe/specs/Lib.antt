@@ -1,4 +1,6 @@
 pub mod Ranges
+pub mod Limits
+pub mod LimitsLemmas
 pub mod Fills
 pub mod Sorts
 pub mod Items

@@ -1,5 +1,6 @@
 -- The ranges of a recipe's numbers.
-use Rattle.std.specs.Prelude.{ℕ, Bool, true, ◌&&◌, List, [], ◌∷◌, nat_le}
+use Rattle.std.specs.Prelude.{ℕ, Bool, ◌&&◌, List, nat_le}
+use Rattle.std.specs.List.{list_all}
 
 -- n lies from the least to the greatest
 abbrev pub within : ℕ → ℕ → ℕ → Bool
@@ -7,8 +8,7 @@ within n least greatest = nat_le least n && nat_le n greatest
 
 -- no number is above the greatest
 abbrev pub every_up_to : ℕ → List ℕ → Bool
-every_up_to greatest [] = true
-every_up_to greatest (n ∷ ns) = nat_le n greatest && every_up_to greatest ns
+every_up_to greatest ns = list_all (λ n. nat_le n greatest) ns
 
 -- the longest time, in ticks
 abbrev pub longest : ℕ

@@ -1,9 +1,10 @@
 -- What is asked of a sorting recipe's numbers.
-use Rattle.std.specs.Prelude.{ℕ, ◌-◌, Bool, cond, ◌&&◌, List, [], ◌∷◌, ◌++◌, length, take, replicate, Ok, Err, Result, nat_le, nat_lt}
+use Rattle.std.specs.Prelude.{ℕ, Bool, cond, ◌&&◌, List, [], ◌∷◌, length, Some, None, Option, Ok, Err, Result, nat_le, nat_lt}
 use Rattle.weight.specs.Range.{most}
 use Rattle.weight.specs.declared.fault.Fault.{Fault}
 use Rattle.weight.specs.declared.fault.Fault.TheVariants.{OutOfRange, Inconsistent}
 use Rattle.recipe.specs.Ranges.{within, every_up_to, longest}
+use Rattle.recipe.specs.Limits.{most_limits}
 use Rattle.recipe.specs.declared.draft.SortDraft.{SortDraft}
 use Rattle.recipe.specs.declared.numbers.SortNumbers.{SortNumbers}
 
@@ -17,23 +18,13 @@ pub record SortValues : Type 0 where
 abbrev pub draft_values : SortDraft → SortValues
 draft_values d = record { zone = d.zone; limits = d.limits.now; correction = d.correction; times = d.times }
 
--- the greatest number of limits
-abbrev pub most_limits : ℕ
-most_limits = 6
-
--- what a recipe that says this holds: the limits in place, the first of six, and zeros behind them
+-- what a recipe that says this holds
 abbrev pub numbers_of : SortValues → SortNumbers
-numbers_of v = record {
-  zone = v.zone;
-  limits = v.limits ++ replicate (most_limits - length v.limits) 0;
-  limit_count = length v.limits;
-  correction = v.correction;
-  times = v.times;
-}
+numbers_of v = record { zone = v.zone; limits = v.limits; correction = v.correction; times = v.times }
 
 -- what such numbers say
 abbrev pub numbers_values : SortNumbers → SortValues
-numbers_values n = record { zone = n.zone; limits = take n.limit_count n.limits; correction = n.correction; times = n.times }
+numbers_values n = record { zone = n.zone; limits = n.limits; correction = n.correction; times = n.times }
 
 -- the greatest correction, in hundredths of a percent
 abbrev pub most_correction : ℕ
@@ -42,6 +33,10 @@ most_correction = 200
 -- The number of limits, the correction and the times are in their ranges.
 abbrev pub sort_in_range : SortValues → Bool
 sort_in_range v = within (length v.limits) 1 most_limits && within v.correction 0 most_correction && every_up_to longest v.times
+
+-- what a recipe that says this holds, or none where a number is out of its range
+abbrev pub numbers_in_range : SortValues → Option SortNumbers
+numbers_in_range v = cond (sort_in_range v) (Some (numbers_of v)) None
 
 -- each limit lies above the one before it, the first above `below`, and the last is at most the largest weight
 abbrev pub rising : ℕ → List ℕ → Bool

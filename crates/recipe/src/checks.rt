@@ -1,11 +1,11 @@
 // The tests that make a draft a recipe.
-ghost use Rattle.std.specs.Prelude.{◌≡◌, length, nat_lt};
+ghost use Rattle.std.specs.Prelude.{◌≡◌, nat_lt};
 ghost use Rattle.recipe.specs.Ranges.{within, every_up_to};
 ghost use Rattle.recipe.specs.Fills.{material_in_range, fill_times_in_range, fill_in_range, material_keeps, fill_keeps};
-ghost use Rattle.recipe.specs.Sorts.{most_limits, draft_values, sort_in_range, rising, sort_keeps};
+ghost use Rattle.recipe.specs.Sorts.{draft_values, numbers_values, numbers_in_range, rising, sort_keeps};
 
 use crate::draft::{FillDraft, Material, SortDraft};
-use crate::numbers::MOST_LIMITS;
+use crate::numbers::{Limits, SortNumbers};
 use weight::range::MOST;
 
 // The longest time, in ticks.
@@ -21,19 +21,14 @@ const MOST_WEIGHT: u32 = MOST as u32;
 fn is_within(n: u32, least: u32, greatest: u32) -> bool
     ensures { result ≡ within n least greatest }
 {
-    least <= n && n <= greatest
+    (least..=greatest).contains(&n)
 }
 
 // Whether no number is above the greatest.
 fn every_up_to(numbers: &[u32], greatest: u32) -> bool
     ensures { result ≡ every_up_to greatest numbers.now }
 {
-    for n in numbers {
-        if *n > greatest {
-            return false;
-        }
-    }
-    true
+    numbers.iter().all(|n| *n <= greatest)
 }
 
 fn material_in_range(m: &Material, least: u32) -> bool
@@ -75,19 +70,19 @@ pub(crate) fn fill_keeps(d: &FillDraft) -> bool
     material_keeps(&d.first) && material_keeps(&d.second)
 }
 
-// Whether each number is in its range. The zone and the limits are judged by the chain below.
-pub(crate) fn sort_in_range(d: SortDraft<'_>) -> bool
-    ensures { result ≡ sort_in_range (draft_values d.entry) }
+// A sorting draft's numbers, or none where one is out of its range. The zone and the limits are judged by the chain
+// below.
+pub(crate) fn numbers_in_range(d: SortDraft<'_>) -> Option<SortNumbers>
+    ensures { result ≡ numbers_in_range (draft_values d.entry) }
 {
-    count_in_range(d.limits)
-        && is_within(d.correction, 0, MOST_CORRECTION)
-        && every_up_to(&d.times, LONGEST)
-}
-
-fn count_in_range(limits: &[u32]) -> bool
-    ensures { result ≡ within (length limits.now) 1 most_limits }
-{
-    1 <= limits.len() && limits.len() <= MOST_LIMITS
+    let limits = Limits::new(d.limits)?;
+    let in_range = is_within(d.correction, 0, MOST_CORRECTION) && every_up_to(&d.times, LONGEST);
+    in_range.then_some(SortNumbers {
+        zone: d.zone,
+        limits,
+        correction: d.correction,
+        times: d.times,
+    })
 }
 
 fn rises(below: u32, limit: u32) -> bool
@@ -111,8 +106,8 @@ fn is_rising(below: u32, limits: &[u32]) -> bool
 }
 
 // Whether the zone and the limits make one rising chain.
-pub(crate) fn sort_keeps(d: SortDraft<'_>) -> bool
-    ensures { result ≡ sort_keeps (draft_values d.entry) }
+pub(crate) fn sort_keeps(n: &SortNumbers) -> bool
+    ensures { result ≡ sort_keeps (numbers_values n.now) }
 {
-    1 <= d.zone && is_rising(d.zone, d.limits)
+    1 <= n.zone && is_rising(n.zone, n.limits.as_slice())
 }

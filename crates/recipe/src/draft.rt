@@ -1,7 +1,7 @@
 // Drafts of recipes: any numbers, of which nothing is known yet.
 
 // What is filled of one material: the target, how much before it each feed is shut, and how far off a fill may be.
-#[derive(Clone, Copy)]
+#[derive(Clone, Copy, Default)]
 pub struct Material {
     // the target A; 0 where the material is not used
     pub target: u32,
@@ -13,7 +13,7 @@ pub struct Material {
     pub tolerance: u32,
 }
 
-#[derive(Clone, Copy)]
+#[derive(Clone, Copy, Default)]
 pub struct FillDraft {
     pub first: Material,
     pub second: Material,

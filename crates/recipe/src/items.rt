@@ -1,9 +1,10 @@
-// Items on the belt, by plain numbers: the test whether one counts, its channel among the limits, and its weight.
-ghost use Rattle.std.specs.Prelude.{◌≡◌, ◌+◌, ◌*◌, ◌^◌, ◌<◌, ◌≤◌, true, length, pos, ◌*ℤ◌, int_lt, unsigned_abs};
+// Items on the belt, by plain numbers: the channel of one among the limits, and its weight by its readings.
+ghost use Rattle.std.specs.Prelude.{◌≡◌, ◌+◌, ◌*◌, ◌≤◌, true, length, is_some, IfSome, pos, ◌*ℤ◌, int_lt, unsigned_abs};
 ghost use Rattle.std.specs.NonZero.{non_zero_u32_get};
-ghost use Rattle.recipe.specs.Items.{item_counts, channel_of, item_weight, parts, most_readings, can_sum};
-ghost use Rattle.recipe.specs.Sorts.{most_limits, most_correction};
+ghost use Rattle.recipe.specs.Items.{reached, channel_of, item_weight, parts, can_sum};
+ghost use Rattle.recipe.specs.Sorts.{most_correction};
 
+use crate::numbers::Limits;
 use std::num::NonZeroU32;
 use weight::range::MOST;
 use weight::rounding::rounded;
@@ -14,68 +15,85 @@ const MOST_READINGS: u32 = 65_535;
 // A correction is in parts of this.
 const PARTS: u32 = 10_000;
 
-fn is_above(x: i32, zone: u32) -> bool
+pub(crate) fn is_above(x: i32, zone: u32) -> bool
     ensures { result ≡ int_lt (pos zone) x }
 {
-    (zone as i64) < x as i64
+    i64::from(zone) < i64::from(x)
 }
 
 fn is_below(x: i32, limit: u32) -> bool
     ensures { result ≡ int_lt x (pos limit) }
 {
-    (x as i64) < limit as i64
+    i64::from(x) < i64::from(limit)
 }
 
-pub(crate) fn item_counts(zone: u32, x: i32) -> bool
-    ensures { result ≡ item_counts zone x }
+// How many limits X reaches, up to the first that lies above it.
+fn reached(limits: &[u32], x: i32) -> usize
+    ensures value { result ≡ reached limits.now x }
+    ensures few { result ≤ length limits.now }
 {
-    is_above(x, zone) && x <= MOST
+    limits.iter().take_while(|p| !is_below(x, **p)).count()
 }
 
-// The channel of X among the limits.
-pub(crate) fn channel_among(limits: &[u32], x: i32) -> u8
-    requires { length limits.now ≤ most_limits }
-    ensures { result ≡ channel_of limits.now x }
-{
-    let mut channel = 1;
-    for p in limits {
-        if is_below(x, *p) {
-            return channel;
-        }
-        channel += 1;
+impl Limits {
+    // The channel of X among the limits.
+    #[tactic(auto, using(crate::proofs::Channels::channel_past))]
+    pub(crate) fn channel_of(&self, x: i32) -> u8
+        ensures { result ≡ channel_of self.now x }
+    {
+        reached(self.as_slice(), x) as u8 + 1
     }
-    channel
+}
+
+// The readings of an item: their sum, and how many there are. Whoever makes such a pair owes the proof that an item can
+// have them.
+#[derive(Clone, Copy)]
+pub(crate) struct Readings {
+    sum: i64,
+    number: u32,
+    ghost possible: { can_sum sum number ≡ true },
+}
+
+impl Readings {
+    // So many readings with that sum, or none where no item has such readings.
+    pub(crate) fn new(sum: i64, number: u32) -> Option<Readings>
+        ensures possible { is_some result ≡ can_sum sum number }
+        ensures same { IfSome result (λ r. (r.sum ≡ sum) × (r.number ≡ number)) }
+    {
+        if can_sum(sum, number) {
+            Some(Readings { sum, number })
+        } else {
+            None
+        }
+    }
+
+    // The weight of the item: the mean with the correction, rounded once.
+    pub(crate) fn mean(self, correction: u32) -> i32
+        requires { correction ≤ most_correction }
+        ensures { result ≡ item_weight self.sum self.number correction }
+    {
+        rounded(self.corrected_sum(correction), self.divisor()) as i32
+    }
+
+    // The sum in parts, with its correction.
+    fn corrected_sum(self, correction: u32) -> i64
+        requires { correction ≤ most_correction }
+        ensures value { result ≡ self.sum *ℤ pos (parts + correction) }
+        ensures size { unsigned_abs result ≡ unsigned_abs self.sum * (parts + correction) }
+    {
+        self.sum * i64::from(PARTS + correction)
+    }
+
+    fn divisor(self) -> NonZeroU32
+        ensures { non_zero_u32_get result ≡ parts * self.number }
+    {
+        NonZeroU32::new(PARTS * self.number).unwrap()
+    }
 }
 
 // Whether an item can have so many readings with that sum.
-pub(crate) fn can_sum(sum: i64, number: u32) -> bool
+fn can_sum(sum: i64, number: u32) -> bool
     ensures { result ≡ can_sum sum number }
 {
-    1 <= number && number <= MOST_READINGS && sum.unsigned_abs() <= MOST as u64 * number as u64
-}
-
-// The sum in parts, with its correction.
-fn corrected(sum: i64, correction: u32) -> i64
-    requires small { unsigned_abs sum * (parts + correction) < 2 ^ 62 }
-    requires few { correction ≤ most_correction }
-    ensures value { result ≡ sum *ℤ pos (parts + correction) }
-    ensures size { unsigned_abs result ≡ unsigned_abs sum * (parts + correction) }
-{
-    sum * (PARTS + correction) as i64
-}
-
-fn divisor_of(number: u32) -> NonZeroU32
-    requires { (1 ≤ number) × (number ≤ most_readings) }
-    ensures { non_zero_u32_get result ≡ parts * number }
-{
-    NonZeroU32::new(PARTS * number).unwrap()
-}
-
-// The weight of an item: the mean of its readings with the correction, rounded once.
-pub(crate) fn corrected_mean(sum: i64, number: u32, correction: u32) -> i32
-    requires can { can_sum sum number ≡ true }
-    requires few { correction ≤ most_correction }
-    ensures { result ≡ item_weight sum number correction }
-{
-    rounded(corrected(sum, correction), divisor_of(number)) as i32
+    (1..=MOST_READINGS).contains(&number) && sum.unsigned_abs() <= MOST as u64 * u64::from(number)
 }

@@ -1,14 +1,83 @@
 // What a sorting recipe holds.
+ghost use Rattle.std.specs.Prelude.{◌≡◌, ◌-◌, ◌≤◌, ◌++◌, length, take, replicate};
+ghost use Rattle.recipe.specs.Ranges.{within};
+ghost use Rattle.recipe.specs.Limits.{most_limits, held_in_place, limits_checked};
+
+use std::marker::Model;
 
 // The greatest number of limits; there is one channel more.
 pub const MOST_LIMITS: usize = 6;
 
-// A sorting draft's numbers with the limits in place: the first `limit_count` are used, and the rest are 0.
+// From one to six limits between the channels, P1 first, held in place.
+#[derive(Clone, Copy)]
+pub struct Limits {
+    // the limits in front, and zeros behind them
+    places: [u32; MOST_LIMITS],
+    count: usize,
+}
+
+impl Model for Limits {
+    ghost use Rattle.std.specs.Prelude.{ℕ, List, length};
+
+    ghost Value = { List ℕ };
+
+    ghost use Rattle.recipe.specs.Limits.{held_in_place, limits_in_use, LimitsInPlace};
+    ghost use Rattle.recipe.specs.LimitsLemmas.{held_again};
+
+    ghost view = { limits_in_use };
+
+    ghost invariant = { LimitsInPlace };
+
+    ghost inverse = { λ ps. record { places = held_in_place ps; count = length ps } };
+
+    ghost inverse_ok = { held_again };
+}
+
+impl Limits {
+    // These limits, or none where there are not from one to six.
+    pub fn new(limits: &[u32]) -> Option<Limits>
+        ensures { result ≡ limits_checked limits.now }
+    {
+        if count_in_range(limits) {
+            Some(Limits {
+                places: held(limits),
+                count: limits.len(),
+            })
+        } else {
+            None
+        }
+    }
+
+    pub fn as_slice(&self) -> &[u32]
+        ensures value { result.now ≡ self.now }
+        ensures few { length result.now ≤ most_limits }
+    {
+        &self.places[..self.count]
+    }
+}
+
+fn count_in_range(limits: &[u32]) -> bool
+    ensures { result ≡ within (length limits.now) 1 most_limits }
+{
+    (1..=MOST_LIMITS).contains(&limits.len())
+}
+
+// The limits in front, and zeros behind them.
+fn held(limits: &[u32]) -> [u32; MOST_LIMITS]
+    requires { length limits.now ≤ most_limits }
+    ensures whole { result ≡ held_in_place limits.now }
+    ensures front { take (length limits.now) result ≡ limits.now }
+{
+    let mut held = [0; MOST_LIMITS];
+    held[..limits.len()].copy_from_slice(limits);
+    held
+}
+
+// A sorting draft's numbers with the limits in place.
 #[derive(Clone, Copy)]
 pub struct SortNumbers {
     pub zone: u32,
-    pub limits: [u32; MOST_LIMITS],
-    pub limit_count: usize,
+    pub limits: Limits,
     pub correction: u32,
     pub times: [u32; 4],
 }

@@ -1,6 +1,6 @@
 // Sorting recipes.
-ghost use Rattle.std.specs.Prelude.{◌≡◌, ◌≤◌, true};
-ghost use Rattle.recipe.specs.Sorts.{most_limits, sort_in_range, sort_keeps, numbers_values};
+ghost use Rattle.std.specs.Prelude.{◌≡◌, true};
+ghost use Rattle.recipe.specs.Sorts.{sort_in_range, sort_keeps, numbers_values};
 
 use crate::numbers::SortNumbers;
 
@@ -10,7 +10,6 @@ mod calls;
 #[derive(Clone, Copy)]
 pub struct SortRecipe {
     pub numbers: SortNumbers,
-    ghost few: { numbers.limit_count ≤ most_limits },
     ghost ranged: { sort_in_range (numbers_values numbers) ≡ true },
     ghost kept: { sort_keeps (numbers_values numbers) ≡ true },
 }

@@ -21,32 +21,22 @@ impl FillRecipe {
         }
         Ok(FillRecipe { numbers: draft })
     }
+}
 
-    // The default recipe: the least that is allowed, and all switches off.
-    pub fn default() -> FillRecipe
-        ensures { result.numbers ≡ default_fill }
-    {
+// The default recipe: the least that is allowed, and all switches off.
+impl Default for FillRecipe {
+    ghost is_default = { λ r. r.numbers ≡ default_fill };
+
+    fn default() -> Self {
         FillRecipe {
             numbers: FillDraft {
                 first: Material {
                     target: 1,
-                    coarse_preact: 0,
-                    fine_preact: 0,
-                    tolerance: 0,
-                },
-                second: Material {
-                    target: 0,
-                    coarse_preact: 0,
-                    fine_preact: 0,
-                    tolerance: 0,
+                    ..Material::default()
                 },
                 zone: 1,
                 times: [1, 0, 0, 0, 0, 0, 0, 0],
-                loops: 0,
-                top_up: false,
-                auto_tare: false,
-                feed_permission: false,
-                discharge_permission: false,
+                ..FillDraft::default()
             },
         }
     }

@@ -1,7 +1,7 @@
 use Rattle.std.proofs.Common.{◌++◌, length, refl, ap}
 use Rattle.std.proofs.lemmas.List.{drop-replicate, take_at}
-use Rattle.recipe.specs.Sorts.{most_limits}
-use Rattle.recipe.proofs.sort.calls.held.Goals as goal
+use Rattle.recipe.specs.Limits.{most_limits}
+use Rattle.recipe.proofs.numbers.held.Goals as goal
 
 pub returns : goal.returns
 returns c =

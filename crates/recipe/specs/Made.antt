@@ -24,7 +24,7 @@ abbrev pub sort_result : Result SortRecipe Fault → Result SortValues Fault
 sort_result (Ok r) = Ok (sort_values r)
 sort_result (Err f) = Err f
 
--- the recipe holds the draft's limits in place
+-- the recipe holds what the draft says; its limits lie in place, as all do (`LimitsInPlace`)
 abbrev pub HeldInPlace : SortDraft → Result SortRecipe Fault → Type 0
 HeldInPlace d (Ok r) = r.numbers ≡ numbers_of (draft_values d)
 HeldInPlace d (Err f) = Unit {0}

@@ -1,5 +1,5 @@
 // The tests that make a draft a recipe.
-ghost use Rattle.std.specs.Prelude.{◌≡◌, nat_lt};
+ghost use Rattle.std.specs.Prelude.{◌≡◌};
 ghost use Rattle.recipe.specs.Ranges.{within, every_up_to};
 ghost use Rattle.recipe.specs.Fills.{material_in_range, fill_times_in_range, fill_in_range, material_keeps, fill_keeps};
 ghost use Rattle.recipe.specs.Sorts.{draft_values, numbers_values, numbers_in_range, rising, sort_keeps};
@@ -85,19 +85,15 @@ pub(crate) fn numbers_in_range(d: SortDraft<'_>) -> Option<SortNumbers>
     })
 }
 
-fn rises(below: u32, limit: u32) -> bool
-    ensures { result ≡ nat_lt below limit }
-{
-    below < limit
-}
-
 // Whether each limit lies above the one before, the first above `below`, and the last is a weight.
+// A loop, since a fold that stops early would carry the last limit likewise, and only hide the return.
+#[tactic(auto, using(crate::proofs::Rising::rising_step, crate::proofs::Rising::rising_end))]
 fn is_rising(below: u32, limits: &[u32]) -> bool
     ensures { result ≡ rising below limits.now }
 {
     let mut last = below;
     for p in limits {
-        if !rises(last, *p) {
+        if *p <= last {
             return false;
         }
         last = *p;

@@ -1,7 +1,7 @@
 // Items on the belt, by plain numbers: the channel of one among the limits, and its weight by its readings.
-ghost use Rattle.std.specs.Prelude.{◌≡◌, ◌+◌, ◌*◌, ◌≤◌, true, length, is_some, IfSome, pos, ◌*ℤ◌, int_lt, unsigned_abs};
+ghost use Rattle.std.specs.Prelude.{◌≡◌, Some, ◌+◌, ◌*◌, ◌≤◌, true, length, is_some, IfSome, pos, ◌*ℤ◌, int_lt};
 ghost use Rattle.std.specs.NonZero.{non_zero_u32_get};
-ghost use Rattle.recipe.specs.Items.{reached, channel_of, item_weight, parts, can_sum};
+ghost use Rattle.recipe.specs.Items.{reached, channel_of, ChannelInRange, item_weight, parts, can_sum};
 ghost use Rattle.recipe.specs.Sorts.{most_correction};
 
 use crate::numbers::Limits;
@@ -39,7 +39,8 @@ impl Limits {
     // The channel of X among the limits.
     #[tactic(auto, using(crate::proofs::Channels::channel_past))]
     pub(crate) fn channel_of(&self, x: i32) -> u8
-        ensures { result ≡ channel_of self.now x }
+        ensures value { result ≡ channel_of self.now x }
+        ensures range { ChannelInRange (Some result) }
     {
         reached(self.as_slice(), x) as u8 + 1
     }
@@ -60,7 +61,8 @@ impl Readings {
         ensures possible { is_some result ≡ can_sum sum number }
         ensures same { IfSome result (λ r. (r.sum ≡ sum) × (r.number ≡ number)) }
     {
-        if can_sum(sum, number) {
+        let most_sum = MOST as u64 * u64::from(number);
+        if (1..=MOST_READINGS).contains(&number) && sum.unsigned_abs() <= most_sum {
             Some(Readings { sum, number })
         } else {
             None
@@ -68,6 +70,7 @@ impl Readings {
     }
 
     // The weight of the item: the mean with the correction, rounded once.
+    #[tactic(auto, using(crate::proofs::Readings::weight_small))]
     pub(crate) fn mean(self, correction: u32) -> i32
         requires { correction ≤ most_correction }
         ensures { result ≡ item_weight self.sum self.number correction }
@@ -76,10 +79,10 @@ impl Readings {
     }
 
     // The sum in parts, with its correction.
+    #[tactic(auto, using(crate::proofs::Readings::corrected_small))]
     fn corrected_sum(self, correction: u32) -> i64
         requires { correction ≤ most_correction }
-        ensures value { result ≡ self.sum *ℤ pos (parts + correction) }
-        ensures size { unsigned_abs result ≡ unsigned_abs self.sum * (parts + correction) }
+        ensures { result ≡ self.sum *ℤ pos (parts + correction) }
     {
         self.sum * i64::from(PARTS + correction)
     }
@@ -89,11 +92,4 @@ impl Readings {
     {
         NonZeroU32::new(PARTS * self.number).unwrap()
     }
-}
-
-// Whether an item can have so many readings with that sum.
-fn can_sum(sum: i64, number: u32) -> bool
-    ensures { result ≡ can_sum sum number }
-{
-    (1..=MOST_READINGS).contains(&number) && sum.unsigned_abs() <= MOST as u64 * u64::from(number)
 }

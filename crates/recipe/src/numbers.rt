@@ -1,17 +1,17 @@
 // What a sorting recipe holds.
-ghost use Rattle.std.specs.Prelude.{◌≡◌, ◌-◌, ◌≤◌, ◌++◌, length, take, replicate};
+ghost use Rattle.std.specs.Prelude.{◌≡◌, ◌≤◌, length};
 ghost use Rattle.recipe.specs.Ranges.{within};
-ghost use Rattle.recipe.specs.Limits.{most_limits, held_in_place, limits_checked};
+ghost use Rattle.recipe.specs.Limits.{most_limits, limits_checked};
 
 use std::marker::Model;
 
 // The greatest number of limits; there is one channel more.
 pub const MOST_LIMITS: usize = 6;
 
-// From one to six limits between the channels, P1 first, held in place.
+// From one to six limits between the channels, held in place.
 #[derive(Clone, Copy)]
 pub struct Limits {
-    // the limits in front, and zeros behind them
+    // the limits in front, P1 first, and zeros behind them
     places: [u32; MOST_LIMITS],
     count: usize,
 }
@@ -38,16 +38,18 @@ impl Limits {
     pub fn new(limits: &[u32]) -> Option<Limits>
         ensures { result ≡ limits_checked limits.now }
     {
-        if count_in_range(limits) {
-            Some(Limits {
-                places: held(limits),
-                count: limits.len(),
-            })
-        } else {
-            None
+        if !count_in_range(limits) {
+            return None;
         }
+        let mut places = [0; MOST_LIMITS];
+        places[..limits.len()].copy_from_slice(limits);
+        Some(Limits {
+            places,
+            count: limits.len(),
+        })
     }
 
+    // The limits, P1 first.
     pub fn as_slice(&self) -> &[u32]
         ensures value { result.now ≡ self.now }
         ensures few { length result.now ≤ most_limits }
@@ -60,17 +62,6 @@ fn count_in_range(limits: &[u32]) -> bool
     ensures { result ≡ within (length limits.now) 1 most_limits }
 {
     (1..=MOST_LIMITS).contains(&limits.len())
-}
-
-// The limits in front, and zeros behind them.
-fn held(limits: &[u32]) -> [u32; MOST_LIMITS]
-    requires { length limits.now ≤ most_limits }
-    ensures whole { result ≡ held_in_place limits.now }
-    ensures front { take (length limits.now) result ≡ limits.now }
-{
-    let mut held = [0; MOST_LIMITS];
-    held[..limits.len()].copy_from_slice(limits);
-    held
 }
 
 // A sorting draft's numbers with the limits in place.

@@ -40,6 +40,7 @@ impl SortRecipe {
     }
 
     // The channel of an item of this weight, or none where it does not count.
+    #[tactic(auto, using(crate::proofs::Channels::found_channel))]
     pub fn channel(&self, x: i32) -> Option<u8>
         ensures value { result ≡ channel_answer (sort_values self.now) x }
         ensures found { FoundChannel (sort_values self.now) x result }
@@ -52,6 +53,6 @@ impl SortRecipe {
     pub fn item_weight(&self, sum: i64, number: u32) -> Option<i32>
         ensures { result ≡ item_weight_answer (sort_values self.now).correction sum number }
     {
-        Some(Readings::new(sum, number)?.mean(self.numbers.correction))
+        Readings::new(sum, number).map(|r| r.mean(self.numbers.correction))
     }
 }

@@ -1,6 +1,6 @@
 // The tests that make a draft a recipe.
 ghost use Rattle.std.specs.Prelude.{◌≡◌};
-ghost use Rattle.recipe.specs.Ranges.{within, every_up_to};
+ghost use Rattle.recipe.specs.Ranges.{every_up_to};
 ghost use Rattle.recipe.specs.Fills.{material_in_range, fill_times_in_range, fill_in_range, material_keeps, fill_keeps};
 ghost use Rattle.recipe.specs.Sorts.{draft_values, numbers_values, numbers_in_range, rising, sort_keeps};
 
@@ -18,12 +18,6 @@ const MOST_LOOPS: u32 = 65_535;
 
 const MOST_WEIGHT: u32 = MOST as u32;
 
-fn is_within(n: u32, least: u32, greatest: u32) -> bool
-    ensures { result ≡ within n least greatest }
-{
-    (least..=greatest).contains(&n)
-}
-
 // Whether no number is above the greatest.
 fn every_up_to(numbers: &[u32], greatest: u32) -> bool
     ensures { result ≡ every_up_to greatest numbers.now }
@@ -34,10 +28,10 @@ fn every_up_to(numbers: &[u32], greatest: u32) -> bool
 fn material_in_range(m: &Material, least: u32) -> bool
     ensures { result ≡ material_in_range least m.now }
 {
-    is_within(m.target, least, MOST_WEIGHT)
-        && is_within(m.coarse_preact, 0, MOST_WEIGHT)
-        && is_within(m.fine_preact, 0, MOST_WEIGHT)
-        && is_within(m.tolerance, 0, MOST_WEIGHT)
+    (least..=MOST_WEIGHT).contains(&m.target)
+        && m.coarse_preact <= MOST_WEIGHT
+        && m.fine_preact <= MOST_WEIGHT
+        && m.tolerance <= MOST_WEIGHT
 }
 
 fn fill_times_in_range(times: &[u32; 8]) -> bool
@@ -52,9 +46,9 @@ pub(crate) fn fill_in_range(d: &FillDraft) -> bool
 {
     material_in_range(&d.first, 1)
         && material_in_range(&d.second, 0)
-        && is_within(d.zone, 1, MOST_WEIGHT)
+        && (1..=MOST_WEIGHT).contains(&d.zone)
         && fill_times_in_range(&d.times)
-        && is_within(d.loops, 0, MOST_LOOPS)
+        && d.loops <= MOST_LOOPS
 }
 
 fn material_keeps(m: &Material) -> bool
@@ -76,7 +70,7 @@ pub(crate) fn numbers_in_range(d: SortDraft<'_>) -> Option<SortNumbers>
     ensures { result ≡ numbers_in_range (draft_values d.entry) }
 {
     let limits = Limits::new(d.limits)?;
-    let in_range = is_within(d.correction, 0, MOST_CORRECTION) && every_up_to(&d.times, LONGEST);
+    let in_range = d.correction <= MOST_CORRECTION && every_up_to(&d.times, LONGEST);
     in_range.then_some(SortNumbers {
         zone: d.zone,
         limits,

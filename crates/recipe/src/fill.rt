@@ -1,10 +1,10 @@
 // Filling recipes.
 ghost use Rattle.std.specs.Prelude.{◌≡◌, true};
-ghost use Rattle.recipe.specs.Fills.{fill_in_range, fill_keeps};
+ghost use Rattle.recipe.specs.Fills.{fill_in_range, fill_keeps, default_fill};
 
-use crate::draft::FillDraft;
-
-mod calls;
+use crate::checks::{fill_in_range, fill_keeps};
+use crate::draft::{FillDraft, Material};
+use weight::fault::Fault;
 
 // Numbers that are in range and fit each other. Whoever makes one, or alters one, owes the proof of that.
 #[derive(Clone, Copy)]
@@ -12,4 +12,40 @@ pub struct FillRecipe {
     pub numbers: FillDraft,
     ghost ranged: { fill_in_range numbers ≡ true },
     ghost kept: { fill_keeps numbers ≡ true },
+}
+
+impl FillRecipe {
+    ghost use Rattle.recipe.specs.Made.{FillMade};
+
+    // A recipe of these numbers, or the first refusal.
+    pub fn new(draft: FillDraft) -> Result<FillRecipe, Fault>
+        ensures { FillMade draft result }
+    {
+        if !fill_in_range(&draft) {
+            return Err(Fault::OutOfRange);
+        }
+        if !fill_keeps(&draft) {
+            return Err(Fault::Inconsistent);
+        }
+        Ok(FillRecipe { numbers: draft })
+    }
+}
+
+// The default recipe: the least that is allowed, and all switches off.
+impl Default for FillRecipe {
+    ghost is_default = { λ r. r.numbers ≡ default_fill };
+
+    fn default() -> Self {
+        FillRecipe {
+            numbers: FillDraft {
+                first: Material {
+                    target: 1,
+                    ..Material::default()
+                },
+                zone: 1,
+                times: [1, 0, 0, 0, 0, 0, 0, 0],
+                ..FillDraft::default()
+            },
+        }
+    }
 }

@@ -1,5 +1,4 @@
 // Filling recipes are drafted for an order of bags.
-use crate::refusal::print_refusal;
 use recipe::draft::{FillDraft, Material};
 use recipe::fill::FillRecipe;
 
@@ -55,8 +54,8 @@ fn draft(rt: &HostRuntime, label: &str, numbers: FillDraft) -> anyhow::Result<()
             println!(rt;
                 "  {label}: A {target}, b {coarse_preact}, C {fine_preact}, d {tolerance}, Z {zone}"
             )?;
-            Ok(())
         }
-        Err(fault) => print_refusal(rt, label, fault),
+        Err(fault) => println!(rt; "  {label} refused, {fault}")?,
     }
+    Ok(())
 }

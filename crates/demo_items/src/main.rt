@@ -3,7 +3,6 @@
 
 mod bags;
 mod items;
-mod refusal;
 
 fn main(rt: HostRuntime) -> anyhow::Result<()> {
     work_through(&rt)

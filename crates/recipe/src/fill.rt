@@ -17,7 +17,8 @@ pub struct FillRecipe {
 impl FillRecipe {
     ghost use Rattle.recipe.specs.Made.{FillMade};
 
-    // A recipe of these numbers, or the first refusal.
+    // A recipe of these numbers, or the first refusal. A sorting recipe is made by the same two tests; one function for
+    // both would want a trait of drafts, for three lines each.
     pub fn new(draft: FillDraft) -> Result<FillRecipe, Fault>
         ensures { FillMade draft result }
     {

@@ -48,7 +48,8 @@ impl SortRecipe {
         is_above(x, self.numbers.zone) && x <= MOST
     }
 
-    // The channel of an item of this weight, or none where it does not count.
+    // The channel of an item of this weight, or none where it does not count. A channel stays a number: it is one more
+    // than the limits that the weight reaches, and the row of the totals that the item is recorded in.
     #[tactic(auto, using(crate::proofs::Channels::found_channel))]
     pub fn channel(&self, x: i32) -> Option<u8>
         ensures value { result ≡ channel_answer (sort_values self.now) x }

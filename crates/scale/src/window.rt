@@ -65,7 +65,8 @@ impl<const K: usize> Window<K> {
         sum
     }
 
-    // The greatest of the weights, or 0 where there is none.
+    // The greatest of the weights, or 0 where there is none. The fold is what this and the next function share; one
+    // function over both would take the rule and its clauses as parameters, and be longer than the two.
     fn highest(&self) -> i32
         ensures value { result ≡ highest (last_weights self.now) }
     {

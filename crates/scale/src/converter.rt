@@ -2,23 +2,18 @@
 ghost use Rattle.std.specs.Prelude.{◌≡◌, ◌*◌, ◌^◌, ◌<◌, ◌≤◌, true, ◌-ℤ◌, ◌*ℤ◌, unsigned_abs};
 ghost use Rattle.std.specs.NonZero.{non_zero_u32_get};
 ghost use Rattle.weight.specs.Range.{InRange, cut};
-ghost use Rattle.scale.specs.Conversion.{codes_in_range, is_division, settings_in_range, last_code, weights_in_range, divisor, converted};
+ghost use Rattle.scale.specs.Conversion.{settings_in_range, last_code, divisor, converted};
 ghost use Rattle.scale.specs.Kinds.{ConverterTakes, converter_shows};
 ghost use Rattle.scale.specs.Windows.{last_weights};
 
 use crate::kind::Scale;
 use crate::reading::Sample;
-use crate::settings::Settings;
+use crate::settings::{LAST_CODE, Settings};
 use crate::window::Window;
 use std::num::NonZeroU32;
 use weight::fault::Fault;
-use weight::range::{MOST, cut_to_range};
+use weight::range::cut_to_range;
 use weight::rounding::rounded;
-
-// The codes of a converter lie from -LAST_CODE to LAST_CODE.
-const LAST_CODE: i32 = 8_388_607;
-
-const WIDEST_SPAN: i32 = 16_777_215;
 
 // A converter is stable over this many of its last weights.
 const SETTLED_OVER: usize = 8;
@@ -37,7 +32,7 @@ impl Converter {
     pub fn new(settings: Settings) -> Result<Self, Fault>
         ensures { ConverterMade settings result }
     {
-        if !in_range(&settings) {
+        if !settings.in_range() {
             return Err(Fault::OutOfRange);
         }
         Ok(Converter {
@@ -84,31 +79,6 @@ impl Scale for Converter {
         let w = self.weight_of(sample.value);
         self.window.push(w);
     }
-}
-
-// Whether each number is in its range.
-fn in_range(s: &Settings) -> bool
-    ensures { result ≡ settings_in_range s.now }
-{
-    codes_in_range(s) && weights_in_range(s)
-}
-
-fn codes_in_range(s: &Settings) -> bool
-    ensures { result ≡ codes_in_range s.now }
-{
-    (-LAST_CODE..=LAST_CODE).contains(&s.zero) && (1..=WIDEST_SPAN).contains(&s.span)
-}
-
-fn weights_in_range(s: &Settings) -> bool
-    ensures { result ≡ weights_in_range s.now }
-{
-    (1..=MOST).contains(&s.capacity) && is_division(s.division) && (0..=MOST).contains(&s.width)
-}
-
-fn is_division(e: i32) -> bool
-    ensures { result ≡ is_division e }
-{
-    matches!(e, 1 | 2 | 5 | 10 | 20 | 50)
 }
 
 // A code beyond the converter's ends counts as the nearer end.

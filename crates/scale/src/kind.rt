@@ -14,8 +14,7 @@ pub trait Scale {
     // the rule of its kind: what a sample makes of the scale
     ghost takes: { Self → Sample → Self → Type 0 };
 
-    // The gross weight. That it is in range is said of the answer too, so that sums of weights need no law. A type for
-    // weights in range would be no plainer: each definition that makes a reading of plain numbers would carry a proof.
+    // The gross weight. That it is in range is said of the answer too, so that sums of weights need no law.
     fn gross(&self) -> i32
         ensures value { result ≡ (shows self.now).gross }
         ensures range { InRange result };

@@ -55,9 +55,8 @@ impl<S: Scale> Scale for Smoothing<S> {
     }
 }
 
-// The rounded mean of the weights, or 0 of none; K is small enough for their sum.
-fn mean_of<const K: usize>(window: &Window<K>) -> i32
-    requires { K ≤ 1000 }
+// The rounded mean of the weights, or 0 of none.
+fn mean_of(window: &Window<MEAN_OVER>) -> i32
     ensures value { result ≡ mean (last_weights window.now) }
     ensures range { InRange result }
 {

@@ -46,13 +46,12 @@ impl<const K: usize> Window<K> {
 
     // The newest weight, or 0 where none has come.
     pub(crate) fn latest(&self) -> i32
-        ensures value { result ≡ slice_index_or (last_weights self.now) 0 (pos 0) }
-        ensures range { InRange result }
+        ensures { result ≡ slice_index_or (last_weights self.now) 0 (pos 0) }
     {
         self.weights.first().copied().unwrap_or(0)
     }
 
-    // The sum of the weights; K is small enough for it.
+    // The sum of the weights; K is small enough for it. A loop, since nothing bounds the sum of a chain.
     pub(crate) fn total(&self) -> i64
         requires { K ≤ 1000 }
         ensures value { result ≡ total (last_weights self.now) }

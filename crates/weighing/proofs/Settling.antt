@@ -1,9 +1,8 @@
 -- The spread of eight weights bounds the difference of every two of them, and two of them differ by it.
-use Rattle.std.proofs.Common.{◌≡◌, ℕ, ◌<◌, true, eqb, List, length, get_or, ℤ, pos, ◌-ℤ◌, ◌≤ℤ◌, sym, refl, ⊎_elim, arith}
+use Rattle.std.proofs.Common.{◌≡◌, ℕ, ◌<◌, true, List, length, get_or, ℤ, pos, ◌-ℤ◌, ◌≤ℤ◌, sym, refl, ⊎_elim, arith}
 use lib.Signed.{le_z}
 use Rattle.std.proofs.ByRecursion.{All-get_or, folded_max_z_bounds, folded_max_z_reached, folded_min_z_bounds, folded_min_z_reached}
 use Rattle.std.proofs.lemmas.Int.{ints}
-use Rattle.std.proofs.lemmas.Bool.{and_parts, and_from}
 use Rattle.std.proofs.lemmas.Bool.Decides.{nat_tests}
 use Rattle.scale.specs.Figures.{highest, lowest, spread}
 use Rattle.scale.specs.Kinds.{settled}
@@ -32,21 +31,12 @@ lowest_of ws some =
 apart : (a b h l r : ℤ) → a ≤ℤ h → l ≤ℤ b → le_z (h -ℤ l) r ≡ true → (a -ℤ b) ≤ℤ r
 apart a b h l r p q s = grind (arith, ints)
 
-test : (a r : ℤ) → a ≤ℤ r → le_z a r ≡ true
-test a r p = grind (arith, ints)
-
-same_length : (n : ℕ) → eqb n 8 ≡ true → n ≡ 8
-same_length n h = grind (arith, nat_tests)
-
-length_same : (n : ℕ) → n ≡ 8 → eqb n 8 ≡ true
-length_same n h = grind (arith, nat_tests)
-
 pub settled_when_alike : SettledWhenAlike
 unfolding Of
 settled_when_alike r ws = (
   (λ (h : settled r ws ≡ true).
-      let e : length ws ≡ 8 = same_length (length ws) (and_parts (eqb (length ws) 8) (le_z (spread ws) r) h).0 in
-      let s = (and_parts (eqb (length ws) 8) (le_z (spread ws) r) h).1 in
+      let e : length ws ≡ 8 = grind (arith, nat_tests) in
+      let s : le_z (spread ws) r ≡ true = grind (arith, nat_tests) in
       record {
         eight = e;
         near = λ i j p q. apart (get_or ws i (pos 0)) (get_or ws j (pos 0)) (highest ws) (lowest ws) r
@@ -57,5 +47,5 @@ settled_when_alike r ws = (
       let x = highest_of ws (omega arith) in
       let y = lowest_of ws (omega arith) in
       let d : (highest ws -ℤ lowest ws) ≤ℤ r = rw (x.2, y.2) (a.near x.0 y.0 (omega arith) (omega arith)) in
-      and_from (eqb (length ws) 8) (le_z (spread ws) r) (length_same (length ws) e) (test (spread ws) r d)),
+      grind (arith, ints, nat_tests)),
 )

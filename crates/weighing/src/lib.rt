@@ -73,9 +73,9 @@ pub fn settled_when_alike()
     ensures { SettledWhenAlike }
 {}
 
-// The functions below do the work of those above whose proofs have files, each from a scale that was given no sample
-// yet: a fact of new scales alone, and so asked here and no part of a type. They are instances of the generic calls,
-// and say what these come to.
+// The functions below have proof files, and so stand apart from the calls above: a bug planted there is refused for a
+// fact, and not for a proof text that no longer fits. (A lemma named on the call is enough for the head alone.) That no
+// sample has come is asked here, of new scales, and is no fact of a type.
 
 fn hand_over<S: Scale>(scale: &mut S, samples: &[Sample])
     ensures { Weighed S.shows S.takes scale.old samples.now scale.new }

@@ -48,6 +48,7 @@ impl Fault {
         *self as u8
     }
 
+    // By hand, since a derived Debug, which prints the same, has no text that a contract can state.
     fn name(&self) -> &'static str
         ensures { result.now ≡ name_of self.now }
     {

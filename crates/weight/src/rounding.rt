@@ -28,6 +28,7 @@ fn correction_of(p: i64, q: NonZeroU32) -> i64
 
 // The whole number nearest to p ÷ q, by the quotient and its correction. Its proof has a file, and so it stands apart
 // from the function below: a bug planted there is refused for a fact, and not for a proof text that no longer fits.
+// (With lemmas named on one function and no file, that the number is nearest stayed open.)
 fn nearest_by(p: i64, q: NonZeroU32) -> i64
     ensures value { result ≡ rounding p (non_zero_u32_get q) }
     ensures size { unsigned_abs result ≤ unsigned_abs p }

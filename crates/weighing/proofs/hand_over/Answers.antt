@@ -1,5 +1,4 @@
 use Rattle.std.proofs.Common.{false, [], ◌∷◌, pos}
-use Rattle.std.proofs.lemmas.List.{take_all}
 use Rattle.weighing.specs.Traces.{start, next}
 use Rattle.weighing.proofs.Traces.{reverse_more}
 use Rattle.weighing.proofs.hand_over.Goals as goal
@@ -11,8 +10,3 @@ pub loop-sample-preserved : goal.loop-sample-preserved
 loop-sample-preserved g c =
     let l = c.loop-sample in
     (g.S.Scale.shows c.sample.new.self ∷ l.invariant.0, rw (reverse_more c.args.samples.now l.sample-index (record { value = pos 0; steady = false }) c.loop-sample-test.true) (next _ l.invariant.0 l.scale _ c.sample.new.self l.invariant.1 c.sample.ensures))
-
-pub returns : goal.returns
-returns g c =
-    let l = c.loop-sample in
-    (l.invariant.0, rw (take_all l.sample-index c.args.samples.now c.loop-sample-test.false) at l.invariant.1)

@@ -7,7 +7,7 @@ ghost use Rattle.std.proofs.Common.{lit≤, ap, ◌∙◌};
 
 use crate::output::{OutputBoard, Switches};
 
-// Relay n is on where bit n of the byte is 1.
+// Relay n is on where bit n of the byte is 1. Set and read in loops: of `array::from_fn` no fact is known.
 #[derive(Clone, Copy)]
 pub struct Relays(pub [bool; 8]);
 

@@ -119,7 +119,7 @@ fn sort_all<R: Store, S: Store>(
 fn print_records(rt: &HostRuntime, ring: &Ring<'_, Stamped>) -> anyhow::Result<()> {
     let kept = ring.len();
     println!(rt; "The ring keeps {kept}, oldest first")?;
-    for Stamped { weight, tick } in (0..kept).filter_map(|i| ring.at(i)) {
+    for Stamped { weight, tick } in (0..).map_while(|i| ring.at(i)) {
         println!(rt; "  tick {tick:>3}  weight {weight:>7}")?;
     }
     Ok(())
@@ -146,7 +146,10 @@ fn print_weights<R: Store>(rt: &HostRuntime, name: &str, store: &R) -> anyhow::R
 
 fn print_totals(rt: &HostRuntime, totals: &Totals) -> anyhow::Result<()> {
     println!(rt; "Totals by class")?;
-    for (class, Row { count, weight }) in (0..).map_while(|class| totals.row(class)).enumerate() {
+    for (class, Row { count, weight }) in (0..).map_while(|class| Some((
+        class,
+        totals.row(class)?,
+    ))) {
         println!(rt; "  {class}        count {count:>2}  weight {weight:>7}")?;
     }
     let Row { count, weight } = totals.overall();

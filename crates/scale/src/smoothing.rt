@@ -1,5 +1,5 @@
 // The smoothing layer: it stands over any scale, and shows the mean of what that one showed.
-ghost use Rattle.std.specs.Prelude.{◌≡◌, ◌≤◌, []};
+ghost use Rattle.std.specs.Prelude.{◌≡◌, []};
 ghost use Rattle.weight.specs.Range.{InRange};
 ghost use Rattle.scale.specs.Kinds.{SmoothingTakes, mean, smoothing_shows, unsampled};
 ghost use Rattle.scale.specs.Windows.{last_weights};

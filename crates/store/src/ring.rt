@@ -66,7 +66,7 @@ impl<'a, T: Record> Store for Ring<'a, T> {
         ensures records { ring_records self.new ≡ added (length (ring_memory self.old)) (ring_records self.old) (T.Record.made weight tick) }
         ensures memory { ring_memory self.new ≡ written (ring_memory self.old) self.old.mark (T.Record.made weight tick) }
     {
-        self.mark = slots::put(self.slots, self.mark, weight, tick);
+        self.mark = slots::put(self.slots, self.mark, T::of(weight, tick));
     }
 
     fn clear(&mut self)

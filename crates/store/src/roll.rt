@@ -42,7 +42,8 @@ impl Roll {
     }
 }
 
-// The ring's calls again, each one line: one type over lent and own slots would need these lines, and a trait for slots.
+// The ring's calls again, each one line. One type over lent and own slots would be longer: a trait of slots, and an
+// implementation of it for each, in place of these four lines.
 impl Store for Roll {
     ghost use Rattle.std.proofs.Common.{lit≤};
     ghost use Rattle.store.specs.Kinds.{roll_holds};
@@ -52,7 +53,7 @@ impl Store for Roll {
     ghost has_places = { λ r. lit≤ tt };
 
     fn add(&mut self, weight: i32, tick: u32) {
-        self.mark = slots::put(&mut self.slots, self.mark, weight, tick);
+        self.mark = slots::put(&mut self.slots, self.mark, Weight::of(weight, tick));
     }
 
     fn clear(&mut self) {

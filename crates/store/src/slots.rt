@@ -7,15 +7,15 @@ ghost use Rattle.store.specs.Places.{goes_at, oldest_first, written, count_of, l
 use crate::mark::Mark;
 use crate::record::Record;
 
-// Puts the record of a weight into its slot, and gives the mark after it.
-pub(crate) fn put<T: Record>(slots: &mut [T], mark: Mark, weight: i32, tick: u32) -> Mark
+// Puts a record into its slot, and gives the mark after it.
+pub(crate) fn put<T: Record>(slots: &mut [T], mark: Mark, newest: T) -> Mark
     requires { goes_at mark < length slots.old }
-    ensures records { oldest_first slots.new result ≡ added (length slots.old) (oldest_first slots.old mark) (T.Record.made weight tick) }
-    ensures weights { map T.Record.weighs (oldest_first slots.new result) ≡ added (length slots.old) (map T.Record.weighs (oldest_first slots.old mark)) weight }
-    ensures memory { slots.new ≡ written slots.old mark (T.Record.made weight tick) }
+    ensures records { oldest_first slots.new result ≡ added (length slots.old) (oldest_first slots.old mark) newest }
+    ensures weights { map T.Record.weighs (oldest_first slots.new result) ≡ added (length slots.old) (map T.Record.weighs (oldest_first slots.old mark)) (T.Record.weighs newest) }
+    ensures memory { slots.new ≡ written slots.old mark newest }
     ensures within { goes_at result < length slots.new }
 {
-    slots[mark.goes_at()] = T::of(weight, tick);
+    slots[mark.goes_at()] = newest;
     mark.after(slots.len())
 }
 

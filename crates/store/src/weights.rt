@@ -20,6 +20,7 @@ impl<'a, S: Store> Iterator for Weights<'a, S> {
 
     #[tactic(auto, using(crate::proofs::Stepping::stepped))]
     fn next(&mut self) -> Option<i32> {
+        // Asked of `len` first, which bounds the position: so the next one cannot overflow.
         let i = self.next;
         if i >= self.store.len() {
             return None;

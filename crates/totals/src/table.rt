@@ -1,6 +1,6 @@
 // The table of classes. Class 0 is fills, and class n is channel n.
-ghost use Rattle.std.specs.Prelude.{◌≡◌, ◌≤◌, length, IfSome};
-ghost use Rattle.totals.specs.Rows.{classes, full_count, no_rows, recorded, can_record, is_recordable, row_answer, overall_count, overall_of, is_full, NotBelowZero, NotTooHeavy};
+ghost use Rattle.std.specs.Prelude.{◌≡◌, ℕ, ◌≤◌, length, IfSome};
+ghost use Rattle.totals.specs.Rows.{classes, full_count, no_rows, recorded, can_record, is_recordable, row_of, row_answer, overall_count, overall_of, is_full, NotBelowZero, NotTooHeavy};
 
 use crate::row::{RecordedRow, Row};
 use std::marker::Model;
@@ -18,9 +18,11 @@ pub struct Totals {
     rows: Rows,
     ghost sized: { length rows ≡ classes },
     ghost few: { overall_count rows ≤ full_count },
+    ghost low: { (k : ℕ) → NotBelowZero (row_of rows k) },
+    ghost high: { (k : ℕ) → NotTooHeavy (row_of rows k) },
 }
 
-// The rows, as a list. Not right in `Totals`: today's toolchain then proves no caller's `?` on a `Result` with totals.
+// The rows, as a list. Not directly in `Totals`: today's toolchain then proves no caller's `?` on a `Result` with totals.
 #[derive(Clone, Copy)]
 struct Rows {
     by_class: [RecordedRow; CLASSES],
@@ -88,6 +90,7 @@ impl Totals {
         ensures low { NotBelowZero result }
         ensures high { NotTooHeavy result }
     {
+        // A loop: `join` asks that the counts fit, and of a fold nothing shows that.
         let mut sum = RecordedRow::default();
         for row in &self.rows.by_class {
             sum = sum.join(*row);

@@ -3,7 +3,6 @@
 
 ghost use Rattle.std.specs.Prelude.{◌≡◌, [], reverse};
 ghost use Rattle.scale.specs.Windows.{last_weights};
-ghost use Rattle.scale.specs.Kinds.{unsampled};
 ghost use Rattle.weighing.specs.Traces.{Weighed, Shown, Smoothed, converter_answer, latest, head_trace, converter_trace, smoothed_trace};
 ghost use Rattle.weighing.specs.Settling.{SettledWhenAlike};
 

@@ -9,6 +9,7 @@ use std::marker::Model;
 pub const MOST_LIMITS: usize = 6;
 
 // From one to six limits between the channels, held in place.
+// No `Vec`, since there is no heap, and no `ArrayVec` of the kit: that is not `Copy`, and recipes are copied.
 #[derive(Clone, Copy)]
 pub struct Limits {
     // the limits in front, P1 first, and zeros behind them

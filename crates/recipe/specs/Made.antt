@@ -3,10 +3,9 @@ use Rattle.std.specs.Prelude.{◌≡◌, Ok, Err, Result}
 use Rattle.weight.specs.declared.fault.Fault.{Fault}
 use Rattle.recipe.specs.declared.draft.FillDraft.{FillDraft}
 use Rattle.recipe.specs.declared.fill.FillRecipe.{FillRecipe}
-use Rattle.recipe.specs.declared.draft.SortDraft.{SortDraft}
 use Rattle.recipe.specs.declared.sort.SortRecipe.{SortRecipe}
 use Rattle.recipe.specs.Fills.{fill_checked}
-use Rattle.recipe.specs.Sorts.{SortValues, sort_checked, draft_values, numbers_of, numbers_values}
+use Rattle.recipe.specs.Sorts.{SortDraft, SortValues, sort_checked, draft_values, numbers_of, numbers_values}
 
 abbrev pub fill_numbers : Result FillRecipe Fault → Result FillDraft Fault
 fill_numbers (Ok r) = Ok r.numbers

@@ -1,12 +1,20 @@
 -- What is asked of a sorting recipe's numbers.
 use Rattle.std.specs.Prelude.{ℕ, Bool, cond, ◌&&◌, List, [], ◌∷◌, length, Some, None, Option, Ok, Err, Result, nat_le, nat_lt}
+use Rattle.std.specs.Borrow.{Bor}
 use Rattle.weight.specs.Range.{most}
 use Rattle.weight.specs.declared.fault.Fault.{Fault}
 use Rattle.weight.specs.declared.fault.Fault.TheVariants.{OutOfRange, Inconsistent}
 use Rattle.recipe.specs.Ranges.{within, every_up_to, longest}
 use Rattle.recipe.specs.Limits.{most_limits}
-use Rattle.recipe.specs.declared.draft.SortDraft.{SortDraft}
-use Rattle.recipe.specs.declared.numbers.SortNumbers.{SortNumbers}
+use Rattle.recipe.specs.declared.draft.Sorting.{Sorting}
+
+-- a sorting draft, which borrows its limits
+abbrev pub SortDraft : Type 0
+SortDraft = Sorting (Bor (List ℕ))
+
+-- a recipe's numbers, with the limits in place
+abbrev pub SortNumbers : Type 0
+SortNumbers = Sorting (List ℕ)
 
 -- what a sorting recipe says, wherever its limits are held
 pub record SortValues : Type 0 where

@@ -29,14 +29,18 @@ pub struct FillDraft {
     pub discharge_permission: bool,
 }
 
+// The numbers of a sorting order, whose limits are held as an `L`.
 #[derive(Clone, Copy)]
-pub struct SortDraft<'a> {
+pub struct Sorting<L> {
     // the zone Z: an item comes on above it, and has left below it
     pub zone: u32,
     // the limits P1 to PN between the channels
-    pub limits: &'a [u32],
+    pub limits: L,
     // the correction c, in hundredths of a percent
     pub correction: u32,
     // the times t0 to t3, in ticks
     pub times: [u32; 4],
 }
+
+// A draft borrows its limits, as many as there are.
+pub type SortDraft<'a> = Sorting<&'a [u32]>;

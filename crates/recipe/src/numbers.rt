@@ -3,6 +3,7 @@ ghost use Rattle.std.specs.Prelude.{◌≡◌, ◌≤◌, length};
 ghost use Rattle.recipe.specs.Ranges.{within};
 ghost use Rattle.recipe.specs.Limits.{most_limits, limits_checked};
 
+use crate::draft::Sorting;
 use std::marker::Model;
 
 // The greatest number of limits; there is one channel more.
@@ -65,11 +66,5 @@ fn count_in_range(limits: &[u32]) -> bool
     (1..=MOST_LIMITS).contains(&limits.len())
 }
 
-// A sorting draft's numbers with the limits in place.
-#[derive(Clone, Copy)]
-pub struct SortNumbers {
-    pub zone: u32,
-    pub limits: Limits,
-    pub correction: u32,
-    pub times: [u32; 4],
-}
+// A recipe holds its limits in place.
+pub type SortNumbers = Sorting<Limits>;

@@ -25,58 +25,10 @@ fn every_up_to(numbers: &[u32], greatest: u32) -> bool
     numbers.iter().all(|n| *n <= greatest)
 }
 
-fn material_in_range(m: &Material, least: u32) -> bool
-    ensures { result ≡ material_in_range least m.now }
-{
-    (least..=MOST_WEIGHT).contains(&m.target)
-        && m.coarse_preact <= MOST_WEIGHT
-        && m.fine_preact <= MOST_WEIGHT
-        && m.tolerance <= MOST_WEIGHT
-}
-
 fn fill_times_in_range(times: &[u32; 8]) -> bool
     ensures { result ≡ fill_times_in_range times.now }
 {
     1 <= times[0] && every_up_to(times, LONGEST)
-}
-
-// Whether each number is in its range.
-pub(crate) fn fill_in_range(d: &FillDraft) -> bool
-    ensures { result ≡ fill_in_range d.now }
-{
-    material_in_range(&d.first, 1)
-        && material_in_range(&d.second, 0)
-        && (1..=MOST_WEIGHT).contains(&d.zone)
-        && fill_times_in_range(&d.times)
-        && d.loops <= MOST_LOOPS
-}
-
-fn material_keeps(m: &Material) -> bool
-    ensures { result ≡ material_keeps m.now }
-{
-    m.fine_preact <= m.coarse_preact && m.coarse_preact <= m.target && m.tolerance <= m.target
-}
-
-// Whether the numbers fit each other.
-pub(crate) fn fill_keeps(d: &FillDraft) -> bool
-    ensures { result ≡ fill_keeps d.now }
-{
-    material_keeps(&d.first) && material_keeps(&d.second)
-}
-
-// A sorting draft's numbers, or none where one is out of its range. The zone and the limits are judged by the chain
-// below.
-pub(crate) fn numbers_in_range(d: SortDraft<'_>) -> Option<SortNumbers>
-    ensures { result ≡ numbers_in_range (draft_values d.entry) }
-{
-    let limits = Limits::new(d.limits)?;
-    let in_range = d.correction <= MOST_CORRECTION && every_up_to(&d.times, LONGEST);
-    in_range.then_some(SortNumbers {
-        zone: d.zone,
-        limits,
-        correction: d.correction,
-        times: d.times,
-    })
 }
 
 // Whether each limit lies above the one before, the first above `below`, and the last is a weight.
@@ -95,9 +47,66 @@ fn is_rising(below: u32, limits: &[u32]) -> bool
     last <= MOST_WEIGHT
 }
 
-// Whether the zone and the limits make one rising chain.
-pub(crate) fn sort_keeps(n: &SortNumbers) -> bool
-    ensures { result ≡ sort_keeps (numbers_values n.now) }
-{
-    1 <= n.zone && is_rising(n.zone, n.limits.as_slice())
+impl Material {
+    fn is_in_range(&self, least: u32) -> bool
+        ensures { result ≡ material_in_range least self.now }
+    {
+        (least..=MOST_WEIGHT).contains(&self.target)
+            && self.coarse_preact <= MOST_WEIGHT
+            && self.fine_preact <= MOST_WEIGHT
+            && self.tolerance <= MOST_WEIGHT
+    }
+
+    fn is_consistent(&self) -> bool
+        ensures { result ≡ material_keeps self.now }
+    {
+        self.fine_preact <= self.coarse_preact
+            && self.coarse_preact <= self.target
+            && self.tolerance <= self.target
+    }
+}
+
+impl FillDraft {
+    // Whether each number is in its range.
+    pub(crate) fn is_in_range(&self) -> bool
+        ensures { result ≡ fill_in_range self.now }
+    {
+        self.first.is_in_range(1)
+            && self.second.is_in_range(0)
+            && (1..=MOST_WEIGHT).contains(&self.zone)
+            && fill_times_in_range(&self.times)
+            && self.loops <= MOST_LOOPS
+    }
+
+    // Whether the numbers fit each other.
+    pub(crate) fn is_consistent(&self) -> bool
+        ensures { result ≡ fill_keeps self.now }
+    {
+        self.first.is_consistent() && self.second.is_consistent()
+    }
+}
+
+impl SortDraft<'_> {
+    // The draft's numbers, or none where one is out of its range. The zone and the limits are judged by the chain below.
+    pub(crate) fn numbers_in_range(self) -> Option<SortNumbers>
+        ensures { result ≡ numbers_in_range (draft_values self.entry) }
+    {
+        let limits = Limits::new(self.limits)?;
+        let in_range = self.correction <= MOST_CORRECTION && every_up_to(&self.times, LONGEST);
+        in_range.then_some(SortNumbers {
+            zone: self.zone,
+            limits,
+            correction: self.correction,
+            times: self.times,
+        })
+    }
+}
+
+impl SortNumbers {
+    // Whether the zone and the limits make one rising chain.
+    pub(crate) fn is_consistent(&self) -> bool
+        ensures { result ≡ sort_keeps (numbers_values self.now) }
+    {
+        1 <= self.zone && is_rising(self.zone, self.limits.as_slice())
+    }
 }

@@ -2,7 +2,6 @@
 ghost use Rattle.std.specs.Prelude.{◌≡◌, true};
 ghost use Rattle.recipe.specs.Fills.{fill_in_range, fill_keeps, default_fill};
 
-use crate::checks::{fill_in_range, fill_keeps};
 use crate::draft::{FillDraft, Material};
 use weight::fault::Fault;
 
@@ -22,10 +21,10 @@ impl FillRecipe {
     pub fn new(draft: FillDraft) -> Result<FillRecipe, Fault>
         ensures { FillMade draft result }
     {
-        if !fill_in_range(&draft) {
+        if !draft.is_in_range() {
             return Err(Fault::OutOfRange);
         }
-        if !fill_keeps(&draft) {
+        if !draft.is_consistent() {
             return Err(Fault::Inconsistent);
         }
         Ok(FillRecipe { numbers: draft })

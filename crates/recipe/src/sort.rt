@@ -2,7 +2,6 @@
 ghost use Rattle.std.specs.Prelude.{◌≡◌, true, ◌≤◌, length};
 ghost use Rattle.recipe.specs.Sorts.{sort_in_range, sort_keeps, numbers_values};
 
-use crate::checks::{numbers_in_range, sort_keeps};
 use crate::draft::SortDraft;
 use crate::items::{Readings, is_above};
 use crate::numbers::SortNumbers;
@@ -26,8 +25,8 @@ impl SortRecipe {
     pub fn new(draft: SortDraft<'_>) -> Result<SortRecipe, Fault>
         ensures { SortMade draft.entry result }
     {
-        let numbers = numbers_in_range(draft).ok_or(Fault::OutOfRange)?;
-        if !sort_keeps(&numbers) {
+        let numbers = draft.numbers_in_range().ok_or(Fault::OutOfRange)?;
+        if !numbers.is_consistent() {
             return Err(Fault::Inconsistent);
         }
         Ok(SortRecipe { numbers })

@@ -16,6 +16,7 @@ const MOST_CORRECTION: u32 = 200;
 
 const MOST_LOOPS: u32 = 65_535;
 
+// By a cast: a constant's value may hold no call.
 const MOST_WEIGHT: u32 = MOST as u32;
 
 // Whether no number is above the greatest.

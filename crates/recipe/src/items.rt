@@ -1,4 +1,4 @@
-// Items on the belt, by plain numbers: the channel of one among the limits, and its weight by its readings.
+// Items on the belt: the channel of one among the limits, and its weight by its readings.
 ghost use Rattle.std.specs.Prelude.{◌≡◌, Some, ◌+◌, ◌*◌, ◌≤◌, true, length, is_some, IfSome, pos, ◌*ℤ◌, int_lt};
 ghost use Rattle.std.specs.NonZero.{non_zero_u32_get};
 ghost use Rattle.recipe.specs.Items.{reached, channel_of, ChannelInRange, item_weight, parts, can_sum};
@@ -61,7 +61,8 @@ impl Readings {
         ensures possible { is_some result ≡ can_sum sum number }
         ensures same { IfSome result (λ r. (r.sum ≡ sum) × (r.number ≡ number)) }
     {
-        let most_sum = MOST as u64 * u64::from(number);
+        let most_sum = u64::from(MOST.unsigned_abs()) * u64::from(number);
+        // Not `.then(..)`, whose closure would owe the invariant without the test.
         if (1..=MOST_READINGS).contains(&number) && sum.unsigned_abs() <= most_sum {
             Some(Readings { sum, number })
         } else {

@@ -33,7 +33,8 @@ fn fill_times_in_range(times: &[u32; 8]) -> bool
 }
 
 // Whether each limit lies above the one before, the first above `below`, and the last is a weight.
-// A loop, since a fold that stops early would carry the last limit likewise, and only hide the return.
+// A loop, since a fold that stops early would carry the last limit likewise, and only hide the return. `is_sorted_by`
+// wants `below` chained in front and the last limit tested after it, and the check finds no proof of that.
 #[tactic(auto, using(crate::proofs::Rising::rising_step, crate::proofs::Rising::rising_end))]
 fn is_rising(below: u32, limits: &[u32]) -> bool
     ensures { result ≡ rising below limits.now }

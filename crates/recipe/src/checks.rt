@@ -89,7 +89,7 @@ impl FillDraft {
 }
 
 impl SortDraft<'_> {
-    // The draft's numbers, or none where one is out of its range. The zone and the limits are judged by the chain below.
+    // The draft's numbers, or none where one is out of its range. `is_consistent` judges the zone and the limits.
     pub(crate) fn numbers_in_range(self) -> Option<SortNumbers>
         ensures { result ≡ numbers_in_range (draft_values self.entry) }
     {

@@ -28,6 +28,7 @@ fn drive_lamps<B: Board>(rt: &HostRuntime, name: &str, board: &mut B) -> anyhow:
 }
 
 fn drive<B: Board>(rt: &HostRuntime, board: &mut B, byte: u8) -> anyhow::Result<()> {
+    // The number alone: the column has no room for the name.
     let label = match board.drive(byte) {
         Ok(()) => format!(in rt.alloc(); "drive {byte:02X}H")?,
         Err(fault) => format!(in rt.alloc();

@@ -34,6 +34,10 @@ numbers_of v = record { zone = v.zone; limits = v.limits; correction = v.correct
 abbrev pub numbers_values : SortNumbers → SortValues
 numbers_values n = record { zone = n.zone; limits = n.limits; correction = n.correction; times = n.times }
 
+-- there are the times t0 to t3
+abbrev pub sort_times : ℕ
+sort_times = 4
+
 -- the greatest correction, in hundredths of a percent
 abbrev pub most_correction : ℕ
 most_correction = 200

@@ -1,5 +1,5 @@
 -- The limits between a sorting recipe's channels, as they are held.
-use Rattle.std.specs.Prelude.{◌≡◌, ℕ, ◌-◌, ◌≤◌, cond, List, ◌++◌, length, take, replicate, Some, None, Option}
+use Rattle.std.specs.Prelude.{◌≡◌, ℕ, ◌-◌, ◌≤◌, Bool, cond, List, ◌++◌, length, take, replicate, Some, None, Option}
 use Rattle.recipe.specs.Ranges.{within}
 use Rattle.recipe.specs.declared.numbers.Limits.TheInside.{Inside}
 
@@ -21,6 +21,10 @@ pub record LimitsInPlace (a : Inside) : Type 0 where
   pub few : a.count ≤ most_limits
   pub zeros : a.places ≡ held_in_place (limits_in_use a)
 
--- the limits, or none where there are not from one to six
+-- there are from one to six limits
+abbrev pub count_in_range : List ℕ → Bool
+count_in_range ps = within (length ps) 1 most_limits
+
+-- the limits, or none where there are not so many
 abbrev pub limits_checked : List ℕ → Option (List ℕ)
-limits_checked ps = cond (within (length ps) 1 most_limits) (Some ps) None
+limits_checked ps = cond (count_in_range ps) (Some ps) None

@@ -1,11 +1,11 @@
 -- What is asked of a sorting recipe's numbers.
-use Rattle.std.specs.Prelude.{ℕ, Bool, cond, ◌&&◌, List, [], ◌∷◌, length, Some, None, Option, Ok, Err, Result, nat_le, nat_lt}
+use Rattle.std.specs.Prelude.{ℕ, Bool, cond, ◌&&◌, List, [], ◌∷◌, Some, None, Option, Ok, Err, Result, nat_le, nat_lt}
 use Rattle.std.specs.Borrow.{Bor}
 use Rattle.weight.specs.Range.{most}
 use Rattle.weight.specs.declared.fault.Fault.{Fault}
 use Rattle.weight.specs.declared.fault.Fault.TheVariants.{OutOfRange, Inconsistent}
 use Rattle.recipe.specs.Ranges.{within, every_up_to, longest}
-use Rattle.recipe.specs.Limits.{most_limits}
+use Rattle.recipe.specs.Limits.{count_in_range}
 use Rattle.recipe.specs.declared.draft.Sorting.{Sorting}
 
 -- a sorting draft, which borrows its limits
@@ -17,22 +17,11 @@ abbrev pub SortNumbers : Type 0
 SortNumbers = Sorting (List ℕ)
 
 -- what a sorting recipe says, wherever its limits are held
-pub record SortValues : Type 0 where
-  pub zone : ℕ
-  pub limits : List ℕ
-  pub correction : ℕ
-  pub times : List ℕ
+abbrev pub SortValues : Type 0
+SortValues = SortNumbers
 
 abbrev pub draft_values : SortDraft → SortValues
 draft_values d = record { zone = d.zone; limits = d.limits.now; correction = d.correction; times = d.times }
-
--- what a recipe that says this holds
-abbrev pub numbers_of : SortValues → SortNumbers
-numbers_of v = record { zone = v.zone; limits = v.limits; correction = v.correction; times = v.times }
-
--- what such numbers say
-abbrev pub numbers_values : SortNumbers → SortValues
-numbers_values n = record { zone = n.zone; limits = n.limits; correction = n.correction; times = n.times }
 
 -- there are the times t0 to t3
 abbrev pub sort_times : ℕ
@@ -44,11 +33,11 @@ most_correction = 200
 
 -- The number of limits, the correction and the times are in their ranges.
 abbrev pub sort_in_range : SortValues → Bool
-sort_in_range v = within (length v.limits) 1 most_limits && within v.correction 0 most_correction && every_up_to longest v.times
+sort_in_range v = count_in_range v.limits && within v.correction 0 most_correction && every_up_to longest v.times
 
--- what a recipe that says this holds, or none where a number is out of its range
+-- the same numbers, or none where one is out of its range
 abbrev pub numbers_in_range : SortValues → Option SortNumbers
-numbers_in_range v = cond (sort_in_range v) (Some (numbers_of v)) None
+numbers_in_range v = cond (sort_in_range v) (Some v) None
 
 -- each limit lies above the one before it, the first above `below`, and the last is at most the largest weight
 abbrev pub rising : ℕ → List ℕ → Bool

@@ -2,7 +2,7 @@
 ghost use Rattle.std.specs.Prelude.{◌≡◌};
 ghost use Rattle.recipe.specs.Ranges.{every_up_to};
 ghost use Rattle.recipe.specs.Fills.{material_in_range, fill_times_in_range, fill_in_range, material_keeps, fill_keeps};
-ghost use Rattle.recipe.specs.Sorts.{draft_values, numbers_values, numbers_in_range, rising, sort_keeps};
+ghost use Rattle.recipe.specs.Sorts.{draft_values, numbers_in_range, rising, sort_keeps};
 
 use crate::draft::{FillDraft, Material, SortDraft};
 use crate::numbers::{Limits, SortNumbers};
@@ -107,7 +107,7 @@ impl SortDraft<'_> {
 impl SortNumbers {
     // Whether the zone and the limits make one rising chain.
     pub(crate) fn is_consistent(&self) -> bool
-        ensures { result ≡ sort_keeps (numbers_values self.now) }
+        ensures { result ≡ sort_keeps self.now }
     {
         1 <= self.zone && is_rising(self.zone, self.limits.as_slice())
     }

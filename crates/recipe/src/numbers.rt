@@ -1,7 +1,6 @@
 // What a sorting recipe holds.
 ghost use Rattle.std.specs.Prelude.{◌≡◌, ◌≤◌, length};
-ghost use Rattle.recipe.specs.Ranges.{within};
-ghost use Rattle.recipe.specs.Limits.{most_limits, limits_checked};
+ghost use Rattle.recipe.specs.Limits.{most_limits, count_in_range, limits_checked};
 
 use crate::draft::Sorting;
 use std::marker::Model;
@@ -61,7 +60,7 @@ impl Limits {
 }
 
 fn count_in_range(limits: &[u32]) -> bool
-    ensures { result ≡ within (length limits.now) 1 most_limits }
+    ensures { result ≡ count_in_range limits.now }
 {
     (1..=MOST_LIMITS).contains(&limits.len())
 }

@@ -1,6 +1,6 @@
 // Sorting recipes, and what they say of items.
 ghost use Rattle.std.specs.Prelude.{◌≡◌, true, ◌≤◌, length};
-ghost use Rattle.recipe.specs.Sorts.{sort_times, sort_in_range, sort_keeps, numbers_values};
+ghost use Rattle.recipe.specs.Sorts.{sort_times, sort_in_range, sort_keeps};
 
 use crate::draft::SortDraft;
 use crate::items::{Readings, is_above};
@@ -13,8 +13,8 @@ use weight::range::MOST;
 pub struct SortRecipe {
     pub numbers: SortNumbers,
     ghost timed: { length numbers.times ≡ sort_times },
-    ghost ranged: { sort_in_range (numbers_values numbers) ≡ true },
-    ghost kept: { sort_keeps (numbers_values numbers) ≡ true },
+    ghost ranged: { sort_in_range numbers ≡ true },
+    ghost kept: { sort_keeps numbers ≡ true },
 }
 
 impl SortRecipe {

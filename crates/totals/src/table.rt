@@ -1,9 +1,9 @@
 // The table of classes. Class 0 is fills, and class n is channel n.
 ghost use Rattle.std.specs.Prelude.{◌≡◌, ℕ, ◌≤◌, length, IfSome};
+ghost use Rattle.totals.specs.Plain.{plain};
 ghost use Rattle.totals.specs.Rows.{classes, full_count, no_rows, recorded, can_record, is_recordable, row_of, row_answer, overall_count, overall_of, is_full, NotBelowZero, NotTooHeavy};
 
 use crate::row::{RecordedRow, Row};
-use std::marker::Model;
 use weight::range::MOST;
 
 // A class stays a number: it is an index, told to hosts and operators as such, and a narrower type would ask more.
@@ -12,31 +12,15 @@ pub const CLASSES: usize = 8;
 // The overall count at which the totals are full.
 pub const FULL: u32 = 999_999;
 
-// One row for each class.
+// One row for each class. Neither it nor its rows have a model: today's toolchain proves no caller that passes a struct
+// with such a field by value and uses it again.
 #[derive(Clone, Copy)]
 pub struct Totals {
-    rows: Rows,
+    rows: [RecordedRow; CLASSES],
     ghost sized: { length rows ≡ classes },
-    ghost few: { overall_count rows ≤ full_count },
-    ghost low: { (k : ℕ) → NotBelowZero (row_of rows k) },
-    ghost high: { (k : ℕ) → NotTooHeavy (row_of rows k) },
-}
-
-// The rows, as a list. Not directly in `Totals`: today's toolchain then proves no caller's `?` on a `Result` with totals.
-#[derive(Clone, Copy)]
-struct Rows {
-    by_class: [RecordedRow; CLASSES],
-}
-
-impl Model for Rows {
-    ghost use Rattle.std.specs.Prelude.{List};
-    ghost use Rattle.totals.specs.declared.row.Row.{Row};
-
-    ghost Value = { List Row };
-
-    ghost view = { λ r. r.by_class };
-
-    ghost inverse = { λ rows. record { by_class = rows } };
+    ghost few: { overall_count (plain rows) ≤ full_count },
+    ghost low: { (k : ℕ) → NotBelowZero (row_of (plain rows) k) },
+    ghost high: { (k : ℕ) → NotTooHeavy (row_of (plain rows) k) },
 }
 
 impl Totals {
@@ -47,9 +31,7 @@ impl Totals {
         ensures { rows_of result ≡ no_rows }
     {
         Totals {
-            rows: Rows {
-                by_class: [RecordedRow::default(); CLASSES],
-            },
+            rows: [RecordedRow::default(); CLASSES],
         }
     }
 
@@ -62,11 +44,15 @@ impl Totals {
 
     // Counts a weight in its class. Left as they are where they cannot take it: full totals, a class that is not
     // there, a weight below 0 or above the largest.
+    #[tactic(auto, using(crate::proofs::PlainSteps::plain_steps))]
     pub fn record(&mut self, class: u8, weight: i32)
         ensures { rows_of self.new ≡ recorded (rows_of self.old) class weight }
     {
         if self.can_record(class, weight) {
-            let row = &mut self.rows.by_class[usize::from(class)];
+            // The rows are lent first: today's toolchain proves no loan of one of them straight from the table, since
+            // both keep facts of their own.
+            let rows = &mut self.rows;
+            let row = &mut rows[usize::from(class)];
             row.raise(weight);
         }
     }
@@ -78,12 +64,12 @@ impl Totals {
         ensures high { IfSome result NotTooHeavy }
     {
         self.rows
-            .by_class
             .get(usize::from(class))
             .map(|recorded| recorded.row)
     }
 
     // All classes together.
+    #[tactic(auto, using(crate::proofs::PlainSteps::plain_steps))]
     pub fn overall(&self) -> Row
         ensures value { result ≡ overall_of (rows_of self.now) }
         ensures few { result.count ≤ full_count }
@@ -92,7 +78,7 @@ impl Totals {
     {
         // A loop: `join` asks that the counts fit, and of a fold nothing shows that.
         let mut sum = RecordedRow::default();
-        for row in &self.rows.by_class {
+        for row in &self.rows {
             sum = sum.join(*row);
         }
         sum.row

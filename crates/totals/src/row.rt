@@ -45,7 +45,7 @@ impl RecordedRow {
     }
 }
 
-// Nothing is recorded.
+// Nothing is recorded. By hand, since a struct with facts cannot derive it.
 impl Default for RecordedRow {
     ghost use Rattle.std.specs.Prelude.{◌≡◌, pos};
     ghost use Rattle.totals.specs.Rows.{row};

@@ -54,7 +54,35 @@ fn run_weights(rt: &HostRuntime) -> anyhow::Result<()> {
 #[cfg(test)]
 mod tests {
     use super::*;
+    use recipe::numbers::{Limits, SortNumbers};
+    use recipe::sort::SortRecipe;
     use weight::fault::Fault;
+
+    // The recipe of the table, written down.
+    const EXAMPLE: SortRecipe = SortRecipe {
+        numbers: SortNumbers {
+            zone: 100,
+            limits: Limits {
+                places: [250, 750, 0, 0, 0, 0],
+                count: 2,
+            },
+            correction: 0,
+            times: [0; 4],
+        },
+    };
+
+    fn channel_by(recipe: SortRecipe, x: i32) -> Option<u8> {
+        recipe.channel(x)
+    }
+
+    // It is copied where it is passed by value, and so can be used again.
+    #[test]
+    fn written_recipe(rt: HostRuntime) {
+        let recipe = EXAMPLE;
+        assert_eq!(rt; channel_by(recipe, 100), None);
+        assert_eq!(rt; channel_by(recipe, 249), Some(1));
+        assert_eq!(rt; channel_by(recipe, 750), Some(3));
+    }
 
     #[test]
     fn channel_edges(rt: HostRuntime) {

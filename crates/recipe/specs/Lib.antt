@@ -1,6 +1,5 @@
 pub mod Ranges
 pub mod Limits
-pub mod LimitsLemmas
 pub mod Fills
 pub mod Sorts
 pub mod Items

@@ -1,7 +1,6 @@
--- The limits between a sorting recipe's channels, as they are held.
-use Rattle.std.specs.Prelude.{◌≡◌, ℕ, ◌-◌, ◌≤◌, Bool, cond, List, ◌++◌, length, take, replicate, Some, None, Option}
+-- The limits between a sorting recipe's channels, and how they are held.
+use Rattle.std.specs.Prelude.{ℕ, ◌-◌, Bool, cond, List, ◌++◌, length, replicate, Some, None, Option}
 use Rattle.recipe.specs.Ranges.{within}
-use Rattle.recipe.specs.declared.numbers.Limits.TheInside.{Inside}
 
 -- the greatest number of limits
 abbrev pub most_limits : ℕ
@@ -10,16 +9,6 @@ most_limits = 6
 -- six places: the limits in front, and zeros behind them
 abbrev pub held_in_place : List ℕ → List ℕ
 held_in_place ps = ps ++ replicate (most_limits - length ps) 0
-
--- the places in use
-abbrev pub limits_in_use : Inside → List ℕ
-limits_in_use a = take a.count a.places
-
--- from one to six places are in use, and there are zeros behind them
-pub record LimitsInPlace (a : Inside) : Type 0 where
-  pub some : 1 ≤ a.count
-  pub few : a.count ≤ most_limits
-  pub zeros : a.places ≡ held_in_place (limits_in_use a)
 
 -- there are from one to six limits
 abbrev pub count_in_range : List ℕ → Bool

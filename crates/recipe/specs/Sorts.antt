@@ -1,12 +1,13 @@
 -- What is asked of a sorting recipe's numbers.
-use Rattle.std.specs.Prelude.{ℕ, Bool, cond, ◌&&◌, List, [], ◌∷◌, Some, None, Option, Ok, Err, Result, nat_le, nat_lt}
+use Rattle.std.specs.Prelude.{◌≡◌, ℕ, Bool, cond, ◌&&◌, List, [], ◌∷◌, length, take, Some, None, Option, Ok, Err, Result, nat_le, nat_lt}
 use Rattle.std.specs.Borrow.{Bor}
 use Rattle.weight.specs.Range.{most}
 use Rattle.weight.specs.declared.fault.Fault.{Fault}
 use Rattle.weight.specs.declared.fault.Fault.TheVariants.{OutOfRange, Inconsistent}
 use Rattle.recipe.specs.Ranges.{within, every_up_to, longest}
-use Rattle.recipe.specs.Limits.{count_in_range}
+use Rattle.recipe.specs.Limits.{count_in_range, held_in_place}
 use Rattle.recipe.specs.declared.draft.Sorting.{Sorting}
+use Rattle.recipe.specs.declared.numbers.Limits.{Limits}
 
 -- a sorting draft, which borrows its limits
 abbrev pub SortDraft : Type 0
@@ -14,14 +15,34 @@ SortDraft = Sorting (Bor (List ℕ))
 
 -- a recipe's numbers, with the limits in place
 abbrev pub SortNumbers : Type 0
-SortNumbers = Sorting (List ℕ)
+SortNumbers = Sorting Limits
 
 -- what a sorting recipe says, wherever its limits are held
 abbrev pub SortValues : Type 0
-SortValues = SortNumbers
+SortValues = Sorting (List ℕ)
+
+-- the limits that are held: the places in use
+abbrev pub limits_in_use : Limits → List ℕ
+limits_in_use l = take l.count l.places
+
+-- they are held in front of six places, with zeros behind them
+abbrev pub HeldInPlace : List ℕ → Limits → Type 0
+HeldInPlace ps l = (l.places ≡ held_in_place ps) × (l.count ≡ length ps)
+
+abbrev pub limits_result : Option Limits → Option (List ℕ)
+limits_result (Some l) = Some (limits_in_use l)
+limits_result None = None
 
 abbrev pub draft_values : SortDraft → SortValues
 draft_values d = record { zone = d.zone; limits = d.limits.now; correction = d.correction; times = d.times }
+
+-- what numbers with the limits in place say
+abbrev pub numbers_values : SortNumbers → SortValues
+numbers_values n = record { zone = n.zone; limits = limits_in_use n.limits; correction = n.correction; times = n.times }
+
+abbrev pub numbers_result : Option SortNumbers → Option SortValues
+numbers_result (Some n) = Some (numbers_values n)
+numbers_result None = None
 
 -- there are the times t0 to t3
 abbrev pub sort_times : ℕ
@@ -36,7 +57,7 @@ abbrev pub sort_in_range : SortValues → Bool
 sort_in_range v = count_in_range v.limits && within v.correction 0 most_correction && every_up_to longest v.times
 
 -- the same numbers, or none where one is out of its range
-abbrev pub numbers_in_range : SortValues → Option SortNumbers
+abbrev pub numbers_in_range : SortValues → Option SortValues
 numbers_in_range v = cond (sort_in_range v) (Some v) None
 
 -- each limit lies above the one before it, the first above `below`, and the last is at most the largest weight

@@ -1,8 +1,8 @@
 // The tests that make a draft a recipe.
-ghost use Rattle.std.specs.Prelude.{◌≡◌};
+ghost use Rattle.std.specs.Prelude.{◌≡◌, IfSome};
 ghost use Rattle.recipe.specs.Ranges.{every_up_to};
 ghost use Rattle.recipe.specs.Fills.{material_in_range, fill_times_in_range, fill_in_range, material_keeps, fill_keeps};
-ghost use Rattle.recipe.specs.Sorts.{draft_values, numbers_in_range, rising, sort_keeps};
+ghost use Rattle.recipe.specs.Sorts.{HeldInPlace, draft_values, numbers_in_range, numbers_result, numbers_values, rising, sort_keeps};
 
 use crate::draft::{FillDraft, Material, SortDraft};
 use crate::numbers::{Limits, SortNumbers};
@@ -91,13 +91,17 @@ impl FillDraft {
 impl SortDraft<'_> {
     // The draft's numbers, or none where one is out of its range. `is_consistent` judges the zone and the limits.
     pub(crate) fn numbers_in_range(self) -> Option<SortNumbers>
-        ensures { result ≡ numbers_in_range (draft_values self.entry) }
+        ensures value { numbers_result result ≡ numbers_in_range (draft_values self.entry) }
+        ensures held { IfSome result (λ n. HeldInPlace self.entry.limits.now n.limits) }
     {
-        let limits = Limits::new(self.limits)?;
+        // The limits last, since they are copied.
         let in_range = self.correction <= MOST_CORRECTION && every_up_to(&self.times, LONGEST);
-        in_range.then_some(SortNumbers {
+        if !in_range {
+            return None;
+        }
+        Some(SortNumbers {
             zone: self.zone,
-            limits,
+            limits: Limits::new(self.limits)?,
             correction: self.correction,
             times: self.times,
         })
@@ -107,7 +111,7 @@ impl SortDraft<'_> {
 impl SortNumbers {
     // Whether the zone and the limits make one rising chain.
     pub(crate) fn is_consistent(&self) -> bool
-        ensures { result ≡ sort_keeps self.now }
+        ensures { result ≡ sort_keeps (numbers_values self.now) }
     {
         1 <= self.zone && is_rising(self.zone, self.limits.as_slice())
     }

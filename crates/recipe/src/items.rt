@@ -2,7 +2,7 @@
 ghost use Rattle.std.specs.Prelude.{◌≡◌, Some, ◌+◌, ◌*◌, ◌≤◌, true, length, is_some, IfSome, pos, ◌*ℤ◌, int_lt};
 ghost use Rattle.std.specs.NonZero.{non_zero_u32_get};
 ghost use Rattle.recipe.specs.Items.{reached, channel_of, ChannelInRange, item_weight, parts, can_sum};
-ghost use Rattle.recipe.specs.Sorts.{most_correction};
+ghost use Rattle.recipe.specs.Sorts.{limits_in_use, most_correction};
 
 use crate::numbers::Limits;
 use std::num::NonZeroU32;
@@ -39,7 +39,7 @@ impl Limits {
     // The channel of X among the limits.
     #[tactic(auto, using(crate::proofs::Channels::channel_past))]
     pub(crate) fn channel_of(&self, x: i32) -> u8
-        ensures value { result ≡ channel_of self.now x }
+        ensures value { result ≡ channel_of (limits_in_use self.now) x }
         ensures range { ChannelInRange (Some result) }
     {
         reached(self.as_slice(), x) as u8 + 1

@@ -1,43 +1,31 @@
 // What a sorting recipe holds.
-ghost use Rattle.std.specs.Prelude.{◌≡◌, ◌≤◌, length};
-ghost use Rattle.recipe.specs.Limits.{most_limits, count_in_range, limits_checked};
+ghost use Rattle.std.specs.Prelude.{◌≡◌};
+ghost use Rattle.recipe.specs.Limits.{count_in_range};
 
 use crate::draft::Sorting;
-use std::marker::Model;
 
 // The greatest number of limits; there is one channel more.
 pub const MOST_LIMITS: usize = 6;
 
-// From one to six limits between the channels, held in place.
-// No `Vec`, since there is no heap, and no `ArrayVec` of the kit: that is not `Copy`, and recipes are copied.
+// The limits between the channels, held in place: the first `count` are used, P1 first, and the rest are 0.
+// No `Vec`, since there is no heap, and no `ArrayVec` of the kit: that is not `Copy`, and recipes are copied. Plain, so
+// that it can be written down; what a recipe asks of its limits is a fact of the recipe's type. It has no model: with
+// one, a caller who passes a recipe by value could not use it again.
 #[derive(Clone, Copy)]
 pub struct Limits {
-    // the limits in front, P1 first, and zeros behind them
-    places: [u32; MOST_LIMITS],
-    count: usize,
-}
-
-impl Model for Limits {
-    ghost use Rattle.std.specs.Prelude.{ℕ, List, length};
-
-    ghost Value = { List ℕ };
-
-    ghost use Rattle.recipe.specs.Limits.{held_in_place, limits_in_use, LimitsInPlace};
-    ghost use Rattle.recipe.specs.LimitsLemmas.{held_again};
-
-    ghost view = { limits_in_use };
-
-    ghost invariant = { LimitsInPlace };
-
-    ghost inverse = { λ ps. record { places = held_in_place ps; count = length ps } };
-
-    ghost inverse_ok = { held_again };
+    pub places: [u32; MOST_LIMITS],
+    pub count: usize,
 }
 
 impl Limits {
+    ghost use Rattle.std.specs.Prelude.{◌≡◌, ◌≤◌, length, IfSome};
+    ghost use Rattle.recipe.specs.Limits.{most_limits, limits_checked};
+    ghost use Rattle.recipe.specs.Sorts.{HeldInPlace, limits_in_use, limits_result};
+
     // These limits, or none where there are not from one to six.
     pub fn new(limits: &[u32]) -> Option<Limits>
-        ensures { result ≡ limits_checked limits.now }
+        ensures value { limits_result result ≡ limits_checked limits.now }
+        ensures held { IfSome result (HeldInPlace limits.now) }
     {
         if !count_in_range(limits) {
             return None;
@@ -52,10 +40,10 @@ impl Limits {
 
     // The limits, P1 first.
     pub fn as_slice(&self) -> &[u32]
-        ensures value { result.now ≡ self.now }
+        ensures value { result.now ≡ limits_in_use self.now }
         ensures few { length result.now ≤ most_limits }
     {
-        &self.places[..self.count]
+        &self.places[..self.count.min(MOST_LIMITS)]
     }
 }
 

@@ -1,6 +1,7 @@
 // Sorting recipes, and what they say of items.
 ghost use Rattle.std.specs.Prelude.{◌≡◌, true, ◌≤◌, length};
-ghost use Rattle.recipe.specs.Sorts.{sort_times, sort_in_range, sort_keeps};
+ghost use Rattle.recipe.specs.Limits.{most_limits};
+ghost use Rattle.recipe.specs.Sorts.{sort_times, sort_in_range, sort_keeps, numbers_values};
 
 use crate::draft::SortDraft;
 use crate::items::{Readings, is_above};
@@ -12,9 +13,10 @@ use weight::range::MOST;
 #[derive(Clone, Copy)]
 pub struct SortRecipe {
     pub numbers: SortNumbers,
+    ghost few: { numbers.limits.count ≤ most_limits },
     ghost timed: { length numbers.times ≡ sort_times },
-    ghost ranged: { sort_in_range numbers ≡ true },
-    ghost kept: { sort_keeps numbers ≡ true },
+    ghost ranged: { sort_in_range (numbers_values numbers) ≡ true },
+    ghost kept: { sort_keeps (numbers_values numbers) ≡ true },
 }
 
 impl SortRecipe {

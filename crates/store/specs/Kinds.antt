@@ -16,19 +16,19 @@ abbrev pub records_of : {X : Type 0} → Records X → List X
 records_of r = oldest_first r.slots.now r.mark
 
 -- the memory that the ring lies over
-abbrev pub ring_memory : {X : Type 0} {g : _} → Ring X g → List X
+abbrev pub ring_memory : {X : Type 0} → Ring X → List X
 ring_memory r = r.slots.now
 
 -- its records, oldest first
-abbrev pub ring_records : {X : Type 0} {g : _} → Ring X g → List X
+abbrev pub ring_records : {X : Type 0} → Ring X → List X
 ring_records r = oldest_first (ring_memory r) r.mark
 
 -- the weights of its records; it has as many places as its memory has slots
-abbrev pub ring_holds : {X : Type 0} {g : _} → (X → ℤ) → Ring X g → Kept
+abbrev pub ring_holds : {X : Type 0} → (X → ℤ) → Ring X → Kept
 ring_holds weighs r = record { weights = map weighs (ring_records r); places = length (ring_memory r) }
 
 -- A ring is made exactly where it has places. It keeps nothing, and leaves the memory as it was.
-abbrev pub RingMade : {X : Type 0} {g : _} → (X → ℤ) → List X → Result (Ring X g) Fault → Type 0
+abbrev pub RingMade : {X : Type 0} → (X → ℤ) → List X → Result (Ring X) Fault → Type 0
 RingMade weighs memory (Ok r) = HasPlaces (ring_holds weighs r) × (ring_memory r ≡ memory) × (ring_holds weighs r ≡ none_of (length memory))
 RingMade weighs memory (Err f) = (length memory ≡ 0) × (f ≡ NoPlaces)
 

@@ -9,7 +9,7 @@ use crate::slots::{self, Records};
 use weight::fault::Fault;
 
 #[derive(Drop)]
-pub struct Ring<'a, T: Record> {
+pub struct Ring<'a, T> {
     slots: &'a mut [T],
     mark: Mark,
     // The next record goes to one of the slots, so there is at least one.

@@ -15,8 +15,16 @@ pub(crate) fn put<T: Record>(slots: &mut [T], mark: Mark, newest: T) -> Mark
     ensures memory { slots.new ≡ written slots.old mark newest }
     ensures within { goes_at result < length slots.new }
 {
-    slots[mark.goes_at()] = newest;
+    write(slots, mark, newest);
     mark.after(slots.len())
+}
+
+// Writes a record into its slot, and no other. Apart, since the proof of the function above has a file.
+fn write<T: Record>(slots: &mut [T], mark: Mark, newest: T)
+    requires { goes_at mark < length slots.old }
+    ensures { slots.new ≡ written slots.old mark newest }
+{
+    slots[mark.goes_at()] = newest;
 }
 
 // The records that lie in some slots.
@@ -32,7 +40,8 @@ impl<'a, T: Record> Records<'a, T> {
 
     // How many there are.
     pub(crate) fn len(&self) -> usize
-        ensures { result ≡ length (map T.Record.weighs (records_of self.now)) }
+        ensures value { result ≡ length (map T.Record.weighs (records_of self.now)) }
+        ensures count { result ≡ count_of (length self.now.slots.now) self.now.mark }
     {
         match self.mark {
             Mark::Filling { next } => next,

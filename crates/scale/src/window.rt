@@ -1,6 +1,7 @@
 // The last K weights of a scale.
-ghost use Rattle.std.specs.Prelude.{ℕ, pos, slice_index_or};
+ghost use Rattle.std.specs.Prelude.{◌≡◌, ℕ, length, pos, slice_index_or};
 ghost use Rattle.weight.specs.Range.{InRange};
+ghost use Rattle.scale.specs.Kinds.{newest};
 
 use arrayvec::ArrayVec;
 
@@ -32,8 +33,12 @@ impl<const K: usize> Window<K> {
         requires { InRange w }
         ensures { last_weights self.new ≡ newest K w (last_weights self.old) }
     {
-        self.weights.truncate(K.saturating_sub(1));
-        let _ = self.weights.try_insert(0, w);
+        // Full, its length is the constant K: so one more comes in by moves of a known size.
+        if self.weights.is_full() {
+            shift_in(self.weights.as_mut_slice(), w);
+        } else {
+            let _ = self.weights.try_insert(0, w);
+        }
     }
 
     // How many weights are kept.
@@ -84,5 +89,16 @@ impl<const K: usize> Window<K> {
         ensures { result ≡ spread (last_weights self.now) }
     {
         i64::from(self.highest()) - i64::from(self.lowest())
+    }
+}
+
+// Puts a weight in front; the last one goes.
+#[tactic(auto, using(crate::proofs::Shifting::shifted))]
+fn shift_in(weights: &mut [i32], w: i32)
+    ensures { weights.new ≡ newest (length weights.old) w weights.old }
+{
+    if !weights.is_empty() {
+        weights.rotate_right(1);
+        weights[0] = w;
     }
 }

@@ -1,7 +1,7 @@
 // The table of classes. Class 0 is fills, and class n is channel n.
-ghost use Rattle.std.specs.Prelude.{◌≡◌, ℕ, ◌≤◌, length, IfSome};
+ghost use Rattle.std.specs.Prelude.{◌≡◌, ℕ, ◌≤◌, true, length, slice_set, IfSome};
 ghost use Rattle.totals.specs.Plain.{plain};
-ghost use Rattle.totals.specs.Rows.{classes, full_count, no_rows, recorded, can_record, is_recordable, row_of, row_answer, overall_count, overall_of, is_full, NotBelowZero, NotTooHeavy};
+ghost use Rattle.totals.specs.Rows.{classes, full_count, no_rows, recorded, can_record, is_recordable, raised, row_of, row_answer, overall_count, overall_of, is_full, NotBelowZero, NotTooHeavy};
 
 use crate::row::{RecordedRow, Row};
 use weight::range::MOST;
@@ -44,16 +44,11 @@ impl Totals {
 
     // Counts a weight in its class. Left as they are where they cannot take it: full totals, a class that is not
     // there, a weight below 0 or above the largest.
-    #[tactic(auto, using(crate::proofs::PlainSteps::plain_steps))]
     pub fn record(&mut self, class: u8, weight: i32)
         ensures { rows_of self.new ≡ recorded (rows_of self.old) class weight }
     {
         if self.can_record(class, weight) {
-            // The rows are lent first: today's toolchain proves no loan of one of them straight from the table, since
-            // both keep facts of their own.
-            let rows = &mut self.rows;
-            let row = &mut rows[usize::from(class)];
-            row.raise(weight);
+            self.raise(class, weight);
         }
     }
 
@@ -89,6 +84,19 @@ impl Totals {
         ensures { result ≡ is_full (rows_of self.now) }
     {
         self.overall().count == FULL
+    }
+
+    // One weight more in the row of its class. Its proof has a file, and so it stands apart from `record`.
+    #[tactic(auto, using(crate::proofs::PlainSteps::plain_steps))]
+    fn raise(&mut self, class: u8, weight: i32)
+        requires { can_record (rows_of self.old) class weight ≡ true }
+        ensures { rows_of self.new ≡ slice_set (rows_of self.old) class (raised (row_of (rows_of self.old) class) weight) }
+    {
+        // The rows are lent first: today's toolchain proves no loan of one of them straight from the table, since
+        // both keep facts of their own.
+        let rows = &mut self.rows;
+        let row = &mut rows[usize::from(class)];
+        row.raise(weight);
     }
 
     // Whether a weight can be counted in a class.

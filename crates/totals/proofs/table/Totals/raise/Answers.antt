@@ -5,7 +5,7 @@ use Rattle.totals.specs.declared.row.Row.{Row}
 use Rattle.totals.specs.Plain.{plain}
 use Rattle.totals.specs.Rows.{row, overall_count, full_count, NotBelowZero, NotTooHeavy}
 use Rattle.totals.proofs.PlainSteps.{plain_set, row_plain, length_plain, each_set}
-use Rattle.totals.proofs.table.Totals.record.Goals as goal
+use Rattle.totals.proofs.table.Totals.raise.Goals as goal
 
 pub invariant_of-self : goal.invariant_of-self
 invariant_of-self c =

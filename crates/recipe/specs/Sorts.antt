@@ -29,20 +29,12 @@ limits_in_use l = take l.count l.places
 abbrev pub HeldInPlace : List ℕ → Limits → Type 0
 HeldInPlace ps l = (l.places ≡ held_in_place ps) × (l.count ≡ length ps)
 
-abbrev pub limits_result : Option Limits → Option (List ℕ)
-limits_result (Some l) = Some (limits_in_use l)
-limits_result None = None
-
 abbrev pub draft_values : SortDraft → SortValues
 draft_values d = record { zone = d.zone; limits = d.limits.now; correction = d.correction; times = d.times }
 
 -- what numbers with the limits in place say
 abbrev pub numbers_values : SortNumbers → SortValues
 numbers_values n = record { zone = n.zone; limits = limits_in_use n.limits; correction = n.correction; times = n.times }
-
-abbrev pub numbers_result : Option SortNumbers → Option SortValues
-numbers_result (Some n) = Some (numbers_values n)
-numbers_result None = None
 
 -- there are the times t0 to t3
 abbrev pub sort_times : ℕ

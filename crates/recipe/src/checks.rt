@@ -1,8 +1,9 @@
 // The tests that make a draft a recipe.
 ghost use Rattle.std.specs.Prelude.{◌≡◌, IfSome};
+ghost use Rattle.std.specs.Option.{option_map};
 ghost use Rattle.recipe.specs.Ranges.{every_up_to};
 ghost use Rattle.recipe.specs.Fills.{material_in_range, fill_times_in_range, fill_in_range, material_keeps, fill_keeps};
-ghost use Rattle.recipe.specs.Sorts.{HeldInPlace, draft_values, numbers_in_range, numbers_result, numbers_values, rising, sort_keeps};
+ghost use Rattle.recipe.specs.Sorts.{HeldInPlace, draft_values, numbers_in_range, numbers_values, rising, sort_keeps};
 
 use crate::draft::{FillDraft, Material, SortDraft};
 use crate::numbers::{Limits, SortNumbers};
@@ -91,7 +92,7 @@ impl FillDraft {
 impl SortDraft<'_> {
     // The draft's numbers, or none where one is out of its range. `is_consistent` judges the zone and the limits.
     pub(crate) fn numbers_in_range(self) -> Option<SortNumbers>
-        ensures value { numbers_result result ≡ numbers_in_range (draft_values self.entry) }
+        ensures value { option_map numbers_values result ≡ numbers_in_range (draft_values self.entry) }
         ensures held { IfSome result (λ n. HeldInPlace self.entry.limits.now n.limits) }
     {
         // The limits last, since they are copied.

@@ -19,12 +19,13 @@ pub struct Limits {
 
 impl Limits {
     ghost use Rattle.std.specs.Prelude.{◌≡◌, ◌≤◌, length, IfSome};
+    ghost use Rattle.std.specs.Option.{option_map};
     ghost use Rattle.recipe.specs.Limits.{most_limits, limits_checked};
-    ghost use Rattle.recipe.specs.Sorts.{HeldInPlace, limits_in_use, limits_result};
+    ghost use Rattle.recipe.specs.Sorts.{HeldInPlace, limits_in_use};
 
     // These limits, or none where there are not from one to six.
     pub fn new(limits: &[u32]) -> Option<Limits>
-        ensures value { limits_result result ≡ limits_checked limits.now }
+        ensures value { option_map limits_in_use result ≡ limits_checked limits.now }
         ensures held { IfSome result (HeldInPlace limits.now) }
     {
         if !count_in_range(limits) {
